@@ -6,12 +6,15 @@ Usage: over.py libs ROOT [CRATE ..]      builds the libraries of a clone that ar
        over.py check ROOT CRATE [FLAG ..] checks a crate; what it proved is kept, and a second check is quick
        over.py edit ROOT CRATE [EDIT ..]  tries edits that must fail, those named or all of must-fail/ and edits/, over a copy of what was kept
        over.py program ROOT CRATE ..      proves and builds programs, as out/NAME, and tests, as out/NAME_tests, and runs them as the gate would
+       over.py kept ROOT                  puts the libraries that `rt ci` kept on this machine into ROOT/crates/NAME/out, newest first, for OVER
 
 A library is looked for in ROOT/crates/NAME/out/rlib, and then in the clones that the variable OVER names (paths, `:` between
 them); so `libs` builds none that stands there, and `build` does. LANES says how many run side by side (4). Flags are those of `rattle check`: `--only crate::module`, `--allow-holes`, `--jobs 4`. This is for work in between: what
 counts is `make test`, which takes nothing from here.
 """
 import concurrent.futures
+import glob
+import json
 import os
 import shutil
 import subprocess
@@ -223,13 +226,36 @@ def edit(root, name, names):
     return let_through
 
 
+def kept(root):
+    """Puts the newest library of each crate that `rt ci` kept into a folder, unless it is there."""
+    newest = {}
+    for at in sorted(glob.glob("/opt/rattle-kept/proof-*/made.json"), key=os.path.getctime):
+        newest[os.path.basename(os.path.dirname(at)).split("-")[1]] = os.path.dirname(at)
+    for name, folder in sorted(newest.items()):
+        out, files = f"{root}/crates/{name}/out", json.load(open(f"{folder}/made.json"))["files"]
+        mark = f"{out}/kept"
+        if not any(it.startswith("rlib/") for it, _ in files) or os.path.exists(mark) and open(mark).read() == folder:
+            continue
+        shutil.rmtree(out, ignore_errors=True)
+        # the files of what is kept are numbered
+        for number, (path, _) in enumerate(files):
+            os.makedirs(os.path.dirname(f"{out}/{path}"), exist_ok=True)
+            shutil.copyfile(f"{folder}/{number}", f"{out}/{path}")
+        with open(mark, "w") as it:
+            it.write(folder)
+        print(name, flush=True)
+    return 0
+
+
 def main(given):
-    if len(given) < 2 or given[0] not in ("libs", "build", "check", "edit", "program"):
+    if len(given) < 2 or given[0] not in ("libs", "build", "check", "edit", "program", "kept"):
         return __doc__
     what, root, *rest = given
     root = os.path.abspath(root)
     if what == "libs":
         return libs(root, rest)
+    if what == "kept":
+        return kept(root)
     if what == "build":
         crates = read_crates(root)
         for name in rest:

@@ -10,6 +10,7 @@ rows are the same, that each fault is one of the call's type and that none is le
 import pathlib
 import re
 import sys
+import textwrap
 
 import refusals
 
@@ -18,21 +19,20 @@ PAGE = TOP / "docs" / "REFUSALS.md"
 HEAD = """# What a call answers if it refuses
 
 You call one of these functions on a small machine, and need to know what stands after a refusal.
-For each call there is a line: its faults in the order in which it looks for them; the clauses that
-say when each comes; and the clauses that say what stands after it.
+Each call has a line: its faults in the order in which it looks for them; the clauses that say when
+each comes; those that say what stands after it. Most that can only lack memory are at the end.
 
-- *reads* means that the call changes nothing: all that it is given it reads, or takes and drops.
-- *type* means that its type has no other fault. A clause without a name is *ensures*; *none* means
-  that no clause says it.
+- *reads*: the call changes nothing; what it is given it reads, or takes and drops.
+- *type*: its type has no other fault. *ensures*: a clause without a name. *none*: no clause.
 - `Memory` may come instead of any fault after it, and of any before it that no clause fixes. No
   clause says that it comes only if memory was refused.
 - A decoder reports the first fault from the left.
 - A refused opening may have synced its slots, cut a torn record away, or begun a journal.
 
-`tools/refusals.py` shows the rest: it refuses each growth of memory in the row of that name, in
-both builds of `call_rows`. With ample memory no row answers `Memory`. With one growth refused
-the call says so in its own type, or its disk fails and says that it was starved. What the row looks
-at is then as before, and the same call succeeds at once.
+`tools/refusals.py` refuses each growth of memory in the row of a call, in both builds of
+`call_rows`. With ample memory no row answers `Memory`. With one growth refused the call says so in
+its own type, or its disk fails and says that it was starved. What the row looks at is then as
+before, and the same call succeeds at once.
 """
 
 # Faults | clauses that say when | clauses that say what stands.
@@ -95,15 +95,15 @@ FAULTS = {
     "jr_journal::Journal::compact": "Halted, Foreign, Memory, Disk | halted, last, faults, cause | refused, halts, torn",
     "jr_journal::Journal::reopen": "Disk, Foreign, BadRecord, Memory | cause, fault, found | wanting, halts, kept, leaves",
     "gw_node::Node::open": "Disk, Journal, Conflict, Full, Memory | may, cause, fault | slots, leaves",
-    "gw_node::Node::frame": "Halted, Frame, Exhausted, Conflict, Full, Disk, Memory | call | call, taken, event",
-    "gw_node::Node::take": "Halted, Conflict, Full, Disk, Memory | call | call, taken, event",
-    "gw_node::Node::tick": "Halted, Exhausted, Conflict, Full, Disk, Memory | call | call, taken, event",
+    "gw_node::Node::frame": "Halted, Frame, Exhausted, Conflict, Full, Disk, Memory | call | call, event",
+    "gw_node::Node::take": "Halted, Conflict, Full, Disk, Memory | call | call, event",
+    "gw_node::Node::tick": "Halted, Exhausted, Conflict, Full, Disk, Memory | call | call, event",
     "gw_node::Node::view": "Memory | call | reads",
     "gw_node::Node::digest": "Full, Memory | call | reads",
     "gw_node::Node::answer": "Memory | call | reads",
-    "gw_node::Node::compact": "Halted, Journal, Disk, Memory | call | call, taken, event",
-    "gw_node::Node::reopen": "Disk, Journal, Conflict, Full, Memory | call | call, taken, event",
-    "gw_node::Node::step": "Halted, Frame, Exhausted, Conflict, Full, Disk, Journal, Memory | call | call, taken, event",
+    "gw_node::Node::compact": "Halted, Journal, Disk, Memory | call | call, event",
+    "gw_node::Node::reopen": "Disk, Journal, Conflict, Full, Memory | call | call, event",
+    "gw_node::Node::step": "Halted, Frame, Exhausted, Conflict, Full, Disk, Journal, Memory | call | call, event",
     "gw_node::Node::step_all": "Halted, Frame, Exhausted, Conflict, Full, Disk, Journal, Memory | events | events",
     "gw_node::Node::held": ROW,
     "gw_node::Node::clients": ROW,
@@ -218,12 +218,18 @@ def page():
     rows = refusals.read_rows()
     if list(rows) != list(FAULTS):
         raise Differs(f"not in both lists: {' '.join(sorted({*rows} ^ {*FAULTS})) or 'the order'}")
-    lines = [HEAD, "```"]
+    lines, alike = [HEAD, "```"], {f"Memory: {it}; reads": [] for it in ("err", "type")}
     for name, said in FAULTS.items():
         call, faults, when, stands = line_of(name, said)
-        line = f"{call}  {faults}: {when}; {stands}"
+        text = f"{faults}: {when}; {stands}"
+        if text in alike:
+            alike[text].append(call)
+            continue
+        line = f"{call}  {text}"
         at = line.find(" ", 60 if len(line) > 100 else 1000)
         lines += [line] if len(line) <= 100 else [line[:at], f"    {line[at + 1:]}"]
+    for text, calls in alike.items():
+        lines += [text, *textwrap.wrap(" ".join(calls), 96, initial_indent="    ", subsequent_indent="    ")]
     return "\n".join([*lines, "```", ""])
 
 

@@ -72,7 +72,7 @@ SENTENCES = [
      "That the client was sent what the step sends. If the write of a step's operations fails, an excuse goes out instead of its "
      "datagrams (`EndsWith`), but the operations may be on the disk, and a restart reads them back (`reopened`, [level 3]). So a message "
      "at quality of service 0 may leave although it was never sent. A message that a clean CONNECT ends may leave although that CONNECT "
-     "was refused. In two places the law allows more than the step table does: `IsRefusal` and `IsSpent`. An answer counts by its "
+     "was refused. In two places the law allows more than the step table does: `IsRefusalCode` and `IsSpent`. An answer counts by its "
      "message id alone, so a late one can count for another message. Whoever sends from a client's address, or names the client in "
      "CONNECT or PINGREQ, counts as that client."),
     ("A crash keeps the set.",
@@ -108,7 +108,7 @@ LEVELS = [
         "`OwnStep` a datagram or a tick, `TakeStep` a delta that comes, `restarted` a stop and a new start. `run` plays events with the "
         "gateway's own code on disks in memory, and `run.ok` ties this whole level to that code. The clauses `event` do so for single "
         "calls, on any disk; `CanBeSaid` has the exceptions, which on the daemon's own disk are all compactions and reopenings. (These "
-        "calls have two more clauses, `call` and `taken`: see part 5 of the long form.) The step table and the "
+        "calls have one more clause, `call`: see part 5 of the long form.) The step table and the "
         "bytes of frames, deltas and journals are named and not entered.", "",
         "`consistent` and `never` say that no name has two contents in the whole field, and that no event is answered by Conflict. "
         "`alike` and `shown` say that two gateways that have taken the same operations have equal sets and show the same. "
@@ -146,10 +146,10 @@ NAMED = set("""
     sn_frame/FlagBits/qos_of sn_frame/frame/Frame sn_topic/Matching/Matches sn_tables/Received/is_received
     sn_tables/subscriptions/Subscription sn_session/Session/applied sn_session/Session/empty_session
     sn_session/change/SessionOp sn_session/outbound/Outbound sn_session/outbound/Phase sn_session/presence/Presence
-    sn_session/session/Session rep_ops/Making/AreApart rep_ops/Making/IsDeltaOf rep_model/Fresh/next_clock
+    sn_session/session/Session rep_ops/Making/HaveOwnNames rep_ops/Making/IsDeltaOf rep_model/Fresh/next_clock
     rep_model/Fresh/next_epoch rep_model/Fresh/next_seq rep_model/Topics/topic_in rep_model/Limits/first_passed
-    rep_model/Roomy/IsRoomy rep_model/Views/is_named rep_model/Views/named jr_disk/disk/Plan jr_disk/disk/Slot
-    jr_journal/Faults/fault_of jr_journal/Faults/is_fresh jr_journal/Parts/disk_of jr_journal/Parts/gateway_of
+    rep_model/Roomy/IsRoomy rep_model/Views/is_named rep_model/Views/named jr_disk/disk/Failure jr_disk/disk/Slot
+    jr_journal/Faults/fault_of jr_journal/Faults/is_fresh jr_journal/Parts/disk_under jr_journal/Parts/gateway_of
     jr_journal/Parts/slot_of jr_journal/Records/records jr_journal/journal/Journal sn_local/Locals/after_all
     sn_local/Locals/owned sn_local/config/Addr sn_local/config/Config sn_local/local/Binding sn_local/local/LocalChange
     sn_local/local/Timer sn_local/local/WillDialog gw_answer/Answers/only_sends gw_answer/Answers/said gw_answer/out/Out
@@ -162,7 +162,7 @@ NAMED = set("""
     gw_event/Drives/torn gw_event/Drives/with_record gw_event/Event/CompactStep gw_event/Event/DigestStep
     gw_event/Event/HasNoDelta gw_event/Event/IsWritable gw_event/Event/ReplyStep gw_event/Event/ViewStep
     gw_event/Excuses/IsExcuse gw_event/Occasions/IsNoFrame gw_node/Parts/is_halted gw_node/Parts/state_of
-    gw_node/Standing/Agrees gw_node/Standing/IsForeseen gw_world/Places/place_of gw_world/Steps/AnswerStep
+    gw_node/Standing/CallAgrees gw_node/Standing/IsForeseen gw_world/Places/place_of gw_world/Steps/AnswerStep
     sn_local/Bindings/address_of sn_local/Bindings/client_at sn_local/Bindings/is_owned sn_local/WillDialogs/dialog_at
     sn_flow/Connection/has_bit sn_exchange/Exchanges/is_served gw_event/Event/IsRefused gw_event/Event/IsTooMuch
     promise_laws/Stepping/IsAmong gw_world/Field/TogetherAt gw_world/event/Call gw_event/Event/IsDropped

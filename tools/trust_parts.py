@@ -64,12 +64,12 @@ PARTS = [
      "gateway's set. `run`, in part 3, says that a crash leaves such an image.",
      ["jr_disk::Disk", "jr_disk::MemoryDisk", "jr_disk::memory_disk_is_honest", "jr_journal::Journal::open",
       "jr_journal::Journal::append", "jr_journal::Journal::compact", "jr_journal::Journal::reopen", "rep_model::base_laws",
-      "gw_node::Node::open", "gw_node::opening_laws", "gw_node::Node::frame", "gw_node::Node::take", "gw_node::Node::tick",
+      "gw_node::Node::open", "gw_node::opening_laws", "gw_node::calls_carry_on", "gw_node::Node::frame", "gw_node::Node::take", "gw_node::Node::tick",
       "gw_node::Node::compact", "gw_node::Node::reopen", "field_laws::stored"],
      ["jr_journal/journal/Journal", "jr_disk/memory/MemoryDisk", "jr_disk/memory/impl Model for MemoryDisk",
-      "jr_journal/fault/JournalFault", "gw_node/Standing/Stands", "gw_node/Standing/Lasts", "gw_event/Drives/opened", "gw_event/Drives/new_drive",
+      "jr_journal/fault/JournalFault", "gw_node/Standing/Represents", "gw_node/Standing/Lasts", "gw_event/Drives/opened", "gw_event/Drives/new_drive",
       "gw_event/Drives/with_record", "gw_event/Drives/compacted", "gw_event/Drives/left_by", "gw_world/Steps/records_left",
-      "gw_node/Taking/StandsFor", "rep_model/Roomy/IsRoomy"]),
+      "gw_node/Taking/RecoversTo", "rep_model/Roomy/IsRoomy"]),
     ("The bytes",
      "Frames, deltas, digests and the messages of a link are each written in one spelling, and no octets are read as two things. A "
      "refusal names the first fault. How a stream is cut into pieces makes no difference.",
@@ -77,9 +77,9 @@ PARTS = [
      ["sn_frame::decode", "sn_frame::encode", "sn_frame::one_meaning", "sn_frame::one_fault", "rep_ops::Delta::decode",
       "rep_ops::Delta::encode", "rep_ops::one_delta", "rep_ops::one_reading", "rep_digest::Digest::decode",
       "rep_digest::Digest::encode", "rep_digest::one_reading", "gw_net::link_out", "gw_net::LinkIn::feed", "gw_net::one_stream"],
-     ["sn_frame/Grammar/Spells", "sn_frame/Grammar/spelling", "sn_frame/Faults/IsFirstFault", "rep_ops/Spelling/spelling",
-      "rep_ops/Reading/reading", "rep_ops/delta/impl Model for Delta", "rep_digest/Spelling/spelling",
-      "rep_digest/Spelling/IsWithinLimit", "rep_digest/Reading/reading", "rep_digest/digest/impl Model for Digest"]),
+     ["sn_frame/Grammar/Spells", "sn_frame/Grammar/spelling", "sn_frame/Faults/IsFirstFault", "rep_ops/Spelling/delta_spelling",
+      "rep_ops/Reading/delta_reading", "rep_ops/delta/impl Model for Delta", "rep_digest/Spelling/digest_spelling",
+      "rep_digest/Spelling/IsDigestWithinLimit", "rep_digest/Reading/digest_reading", "rep_digest/digest/impl Model for Digest"]),
 ]
 
 

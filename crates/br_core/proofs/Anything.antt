@@ -17,7 +17,7 @@ use Rattle.sn_frame.specs.declared.frame.Frame.{Frame}
 use Rattle.sn_frame.specs.declared.frame.Frame.TheVariants as frames
 use Rattle.br_core.specs.declared.event.Event.{Event}
 use Rattle.br_core.specs.declared.event.Event.TheVariants as events
-use Rattle.br_core.specs.Sides.{acknowledged}
+use Rattle.br_core.specs.Sides.{item_in_flight}
 use Rattle.br_core.specs.Lanes.{lane_frame}
 use Rattle.br_core.proofs.Walk.{FirstMay, FrameCame, FrameIn, FrameMay, FrameOwn, IfThere, ItemDone, LaneJust, LastJust, PacketDone, Reasons}
 
@@ -71,7 +71,7 @@ frame-may (frames.PubAck topic_id msg_id code) b = λ doing asked accepted. firs
 frame-may frame b = tt
 
 pub packet-any : (settings : Settings) (packet : Packet) (b : Bridge) → PacketDone Yes Yes Each settings packet b
-packet-any settings (packets.PubAck id) b = item-any (acknowledged id b.flight)
+packet-any settings (packets.PubAck id) b = item-any (item_in_flight id b.flight)
 packet-any settings (packets.Publish delivery retain topic body) b = (λ kept left wanted. tt, tt)
 packet-any settings packet b = tt
 

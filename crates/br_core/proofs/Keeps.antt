@@ -11,9 +11,9 @@ use Rattle.br_core.specs.declared.item.Item.{Item}
 use Rattle.br_core.specs.declared.settings.Settings.{Settings}
 use Rattle.br_core.specs.declared.state.Bridge.{Bridge}
 use Rattle.br_core.specs.Begins.{begun, moment_of}
-use Rattle.br_core.specs.Runs.{Come, Flies, Handed, IsIn, IsOne, Waits, after, stepped}
-use Rattle.br_core.specs.Steps.{emptied}
-use Rattle.br_core.specs.Sides.{acknowledged, left_in_flight}
+use Rattle.br_core.specs.Runs.{Come, Flies, Handed, IsIn, IsOne, WaitsAmong, after, stepped}
+use Rattle.br_core.specs.Steps.{nothing_out}
+use Rattle.br_core.specs.Sides.{item_in_flight, left_in_flight}
 use Rattle.br_core.proofs.Anything.{Any, Each, Its, Yes, each-any, first-any, frame-any, frame-may, lane-any}
 use Rattle.br_core.proofs.Lists.{no-more, one-more}
 use Rattle.br_core.proofs.Running.{after-one, handed-item, handed-on, standing}
@@ -22,7 +22,7 @@ use Rattle.br_core.proofs.Walk.{Held, IsKept, IsWalked, ItemDone, PacketDone, Re
 module _ (number : ℕ) where
   -- ---- lists
 
-  waits-more : (w : List Item) (item : Item) → Waits number w → Waits number (w ++ item ∷ [])
+  waits-more : (w : List Item) (item : Item) → WaitsAmong number w → WaitsAmong number (w ++ item ∷ [])
   waits-more [] item h = absurd h
   waits-more (first ∷ more) item (inl is) = inl is
   waits-more (first ∷ more) item (inr h) = inr (waits-more more item h)
@@ -32,7 +32,7 @@ module _ (number : ℕ) where
   flies-more (first ∷ more) one (inl is) = inl is
   flies-more (first ∷ more) one (inr h) = inr (flies-more more one h)
 
-  pub waits-last : (w : List Item) (item : Item) → item.number ≡ number → IsOne item.qos → Waits number (w ++ item ∷ [])
+  pub waits-last : (w : List Item) (item : Item) → item.number ≡ number → IsOne item.qos → WaitsAmong number (w ++ item ∷ [])
   waits-last [] item is one = inl (is, one)
   waits-last (first ∷ more) item is one = inr (waits-last more item is one)
 
@@ -52,16 +52,16 @@ module _ (number : ℕ) where
     left-by false one more rest item handed k (inr flies) =
         elim (k handed flies) as (λ _. Done number ⊎ Flies number (one ∷ rest)) [ inl g ↦ inl g | inr h ↦ inr (inr h) ]
 
-    left-flies : (id : ℕ) (f : List Flight) → ItemDone Done (acknowledged id f) → Flies number f → Done number ⊎ Flies number (left_in_flight id f)
+    left-flies : (id : ℕ) (f : List Flight) → ItemDone Done (item_in_flight id f) → Flies number f → Done number ⊎ Flies number (left_in_flight id f)
     left-flies id [] handed h = absurd h
     left-flies id (one ∷ more) handed h =
-        left-by (one.id == id) one more (left_in_flight id more) (acknowledged id more) handed (left-flies id more) h
+        left-by (one.id == id) one more (left_in_flight id more) (item_in_flight id more) handed (left-flies id more) h
 
 -- ---- the walk
 
 module _ (number : ℕ) (Done : ℕ → Type 0) where
   abbrev StaysIn : List Item → List Flight → Type 0
-  StaysIn w f = Done number ⊎ (Waits number w ⊎ Flies number f)
+  StaysIn w f = Done number ⊎ (WaitsAmong number w ⊎ Flies number f)
 
   abbrev P : Held
   P l out w f n q = StaysIn w f
@@ -89,7 +89,7 @@ module _ (number : ℕ) (Done : ℕ → Type 0) where
   flown-first id item more f (inr (inl (inr waiting))) = inr (inl waiting)
   flown-first id item more f (inr (inr flies)) = inr (inr (flies-more number f (record { id = id; item = item }) flies))
 
-  leaves : (id : ℕ) (w : List Item) (f : List Flight) → ItemDone Done (acknowledged id f) → StaysIn w f → StaysIn w (left_in_flight id f)
+  leaves : (id : ℕ) (w : List Item) (f : List Flight) → ItemDone Done (item_in_flight id f) → StaysIn w f → StaysIn w (left_in_flight id f)
   leaves id w f handed (inl g) = inl g
   leaves id w f handed (inr (inl waiting)) = inr (inl waiting)
   leaves id w f handed (inr (inr flies)) =
@@ -128,16 +128,16 @@ module _ (number : ℕ) (Done : ℕ → Type 0) where
 
 -- a PUBACK is a reason; all else needs none
 packet-reasons : (settings : Settings) (before : List Come) (moment : ℕ) (packet : Packet)
-    → PacketDone (Handed settings (before ++ (events.Broker packet, moment) ∷ [])) Yes Each settings packet (emptied (after settings before))
+    → PacketDone (Handed settings (before ++ (events.Broker packet, moment) ∷ [])) Yes Each settings packet (nothing_out (after settings before))
 packet-reasons settings before moment (packets.PubAck id) =
-    handed-item settings before moment (standing settings before) id (acknowledged id (after settings before).flight) refl
+    handed-item settings before moment (standing settings before) id (item_in_flight id (after settings before).flight) refl
 packet-reasons settings before moment (packets.Publish delivery retain topic body) = (λ kept left wanted. tt, tt)
 packet-reasons settings before moment packet = tt
 
 its-reasons : (settings : Settings) (before : List Come) (moment : ℕ) (event : Event)
-    → Reasons Yes (Handed settings (before ++ (event, moment) ∷ [])) Its Yes Any Each settings event (moment_of moment) (emptied (after settings before))
-its-reasons settings before moment (events.Field place frame) = frame-any settings place (moment_of moment) frame (emptied (after settings before))
-its-reasons settings before moment (events.Commands frame) = frame-may frame (emptied (after settings before))
+    → Reasons Yes (Handed settings (before ++ (event, moment) ∷ [])) Its Yes Any Each settings event (moment_of moment) (nothing_out (after settings before))
+its-reasons settings before moment (events.Field place frame) = frame-any settings place (moment_of moment) frame (nothing_out (after settings before))
+its-reasons settings before moment (events.Commands frame) = frame-may frame (nothing_out (after settings before))
 its-reasons settings before moment (events.Broker packet) = packet-reasons settings before moment packet
 its-reasons settings before moment (events.Kept line) = λ doing. first-any (after settings before).down.queue
 its-reasons settings before moment (events.Found item) = tt
@@ -151,7 +151,7 @@ stays-one settings before event moment number there =
     let here : StaysIn number (Handed settings run) (after settings before).waiting (after settings before).flight =
     elim there as (λ _. Handed settings run number ⊎ IsIn number (after settings before)) [ inl handed ↦ inl (handed-on settings before ((event, moment) ∷ []) number handed) | inr h ↦ inr h ] in
     event-walked Yes (Handed settings run) (lifts number (Handed settings run)) Its Yes Any Each (P number (Handed settings run)) (walked number (Handed settings run))
-    settings event (moment_of moment) (emptied (after settings before)) (its-reasons settings before moment event) here
+    settings event (moment_of moment) (nothing_out (after settings before)) (its-reasons settings before moment event) here
 
 stays-then : (settings : Settings) (before : List Come) (come : Come) (number : ℕ) → Handed settings before number ⊎ IsIn number (after settings before)
     → Handed settings (before ++ come ∷ []) number ⊎ IsIn number (after settings (before ++ come ∷ []))

@@ -14,9 +14,9 @@ use Rattle.br_core.specs.declared.state.Bridge.{Bridge}
 use Rattle.br_core.specs.declared.state.Side.{Side}
 use Rattle.br_core.specs.declared.state.Side.TheVariants as sides
 use Rattle.br_core.specs.Begins.{begun, moment_of}
-use Rattle.br_core.specs.Runs.{Come, Rises, after, after_from, done, done_from, first_in, firsts, stepped}
-use Rattle.br_core.specs.Sides.{at_once, free_id, has_window, in_flight, kept_at, out_again, sent_along, sent_at, takes_at, waits}
-use Rattle.br_core.specs.Steps.{emptied}
+use Rattle.br_core.specs.Runs.{Come, Rises, after, after_from, run_done, done_from, first_in, firsts, stepped}
+use Rattle.br_core.specs.Sides.{at_once, free_packet_id, has_window, in_flight, kept_while_away, out_again, sent_along, item_sent, takes_at, item_waits}
+use Rattle.br_core.specs.Steps.{nothing_out}
 use Rattle.br_core.proofs.Anything.{Any, Each, Its, Yes, each-any, lane-any, reasons-any}
 use Rattle.br_core.proofs.Lists.{regroup}
 use Rattle.br_core.proofs.Walk.{At, Held, IsOther, IsWalked, event-walked, one-taken, sent-waiting}
@@ -103,10 +103,10 @@ first-sorted low out item more n packet h =
     )
 
 sent-first-sorted : (low : ℕ) (qos : Qos) (item : Item) (more : List Item) (b : Bridge) → Sorted low b.out (item ∷ more) b.number
-    → At (P low) (sent_at qos item (record b { waiting = more }))
+    → At (P low) (item_sent qos item (record b { waiting = more }))
 sent-first-sorted low levels.Zero item more b h = first-sorted low b.out item more b.number (at_once item) h
 sent-first-sorted low levels.One item more b h =
-    first-sorted low b.out item more b.number (in_flight false (record { id = free_id b.packet_id b.flight; item = item })) h
+    first-sorted low b.out item more b.number (in_flight false (record { id = free_packet_id b.packet_id b.flight; item = item })) h
 
 choose-sorted : (low : ℕ) (c : Bool) (x y : Bridge) → At (P low) x → At (P low) y → At (P low) (if c then x else y)
 choose-sorted low true x y p q = p
@@ -117,8 +117,8 @@ along-sorted low settings [] b e h = h
 along-sorted low settings (item ∷ more) b e h =
     let first : Bridge = record b { waiting = more } in
     let here : Sorted low b.out (item ∷ more) b.number = subst (λ (w : List Item). Sorted low b.out w b.number) e h in
-    choose-sorted low (has_window settings item.qos b.flight) (sent_along settings more (sent_at item.qos item first)) b
-    (along-sorted low settings more (sent_at item.qos item first) (sent-waiting item.qos item first) (sent-first-sorted low item.qos item more b here)) h
+    choose-sorted low (has_window settings item.qos b.flight) (sent_along settings more (item_sent item.qos item first)) b
+    (along-sorted low settings more (item_sent item.qos item first) (sent-waiting item.qos item first) (sent-first-sorted low item.qos item more b here)) h
 
 -- ---- a reading is taken
 
@@ -128,13 +128,13 @@ alone-sorted : (low : ℕ) (out : List Action) (w : List Item) (item : Item) (n 
 alone-sorted low out [] item n packet e h = first-sorted low out item [] n packet h
 alone-sorted low out (first ∷ more) item n packet e h = absurd (omega arith)
 
-sent-at-sorted : (low : ℕ) (qos : Qos) (item : Item) (b : Bridge) → length b.waiting ≡ 0 → Sorted low b.out (b.waiting ++ item ∷ []) b.number → At (P low) (sent_at qos item b)
+sent-at-sorted : (low : ℕ) (qos : Qos) (item : Item) (b : Bridge) → length b.waiting ≡ 0 → Sorted low b.out (b.waiting ++ item ∷ []) b.number → At (P low) (item_sent qos item b)
 sent-at-sorted low levels.Zero item b e h = alone-sorted low b.out b.waiting item b.number (at_once item) e h
 sent-at-sorted low levels.One item b e h =
-    alone-sorted low b.out b.waiting item b.number (in_flight false (record { id = free_id b.packet_id b.flight; item = item })) e h
+    alone-sorted low b.out b.waiting item b.number (in_flight false (record { id = free_packet_id b.packet_id b.flight; item = item })) e h
 
 offered-sorted : (low : ℕ) (c : Bool) (item : Item) (b : Bridge) → (c ≡ true → length b.waiting ≡ 0) → Sorted low b.out (b.waiting ++ item ∷ []) b.number
-    → At (P low) (if c then sent_at item.qos item b else waits item b)
+    → At (P low) (if c then item_sent item.qos item b else item_waits item b)
 offered-sorted low true item b e h = sent-at-sorted low item.qos item b (e refl) h
 offered-sorted low false item b e h = h
 
@@ -145,7 +145,7 @@ one-behind low item b e h =
     subst (λ (xs : List ℕ). Rises h.0 xs (item.number + 1)) (sym (numbers-more b.waiting item)) (rises-more h.0 (numbers b.waiting) item.number last) in
     (h.0, h.1, more)
 
-kept-sorted : (low : ℕ) (qos : Qos) (item : Item) (b : Bridge) → b.number ≤ item.number → At (P low) b → At (P low) (kept_at qos item (one-taken item b))
+kept-sorted : (low : ℕ) (qos : Qos) (item : Item) (b : Bridge) → b.number ≤ item.number → At (P low) b → At (P low) (kept_while_away qos item (one-taken item b))
 kept-sorted low levels.Zero item b e h =
     let up : b.number ≤ item.number + 1 = omega arith in
     (h.0, h.1, rises-wide h.0 (numbers b.waiting) b.number (item.number + 1) up h.2)
@@ -183,7 +183,7 @@ lifts n h = h
 order-one : (settings : Settings) (come : Come) (b : Bridge) (low : ℕ) → Rises low (numbers b.waiting) b.number → At (P low) (stepped settings b come)
 order-one settings come b low h =
     let same : low ≤ low = omega arith in
-    event-walked Yes Yes lifts Its Yes Any Each (P low) (sorted-walked low) settings come.0 (moment_of come.1) (emptied b) (reasons-any settings come.0 (moment_of come.1) (emptied b)) (low, same, h)
+    event-walked Yes Yes lifts Its Yes Any Each (P low) (sorted-walked low) settings come.0 (moment_of come.1) (nothing_out b) (reasons-any settings come.0 (moment_of come.1) (nothing_out b)) (low, same, h)
 
 order-from : (settings : Settings) (run : List Come) (b : Bridge) (low : ℕ) → Rises low (numbers b.waiting) b.number
     → Rises low (firsts (done_from settings b run)) (after_from settings b run).number
@@ -195,7 +195,7 @@ order-from settings (come ∷ more) b low h =
     subst (λ (xs : List ℕ). Rises low xs (after_from settings next more).number) (sym (firsts-join next.out (done_from settings next more)))
     (rises-then low (firsts next.out) here.0 (firsts (done_from settings next more)) (after_from settings next more).number here.1 later)
 
-pub keeps-order : (settings : Settings) (run : List Come) → Rises 0 (firsts (done settings run)) (after settings run).number
+pub keeps-order : (settings : Settings) (run : List Come) → Rises 0 (firsts (run_done settings run)) (after settings run).number
 keeps-order settings run =
     let least : 0 ≤ 0 = omega arith in
     order-from settings run (begun settings) 0 least

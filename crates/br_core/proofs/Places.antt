@@ -3,7 +3,7 @@ use Rattle.std.proofs.Common.{◌≡◌, ◌==◌, ℕ, zero, suc, ◌<◌, Bool
 use Rattle.std.specs.Prelude.{get_or, option_map, remove, slice_get}
 use Rattle.br_core.specs.declared.item.Flight.{Flight}
 use Rattle.br_core.specs.declared.item.Item.{Item}
-use Rattle.br_core.specs.Sides.{acknowledged, left_in_flight}
+use Rattle.br_core.specs.Sides.{item_in_flight, left_in_flight}
 
 -- what is in a place, and what follows it
 pub record IsAt (f : Flight) (flight : List Flight) (at : ℕ) : Type 0 where
@@ -18,7 +18,7 @@ is-at d (f ∷ more) (suc at) h =
     record { rest = deeper.rest; there = deeper.there }
 
 -- of a list that begins with the flight of this id
-first-is : (c : Bool) (f : Flight) (id : ℕ) (more : List Flight) → c ≡ true → (if c then Some f.item else acknowledged id more) ≡ Some f.item
+first-is : (c : Bool) (f : Flight) (id : ℕ) (more : List Flight) → c ≡ true → (if c then Some f.item else item_in_flight id more) ≡ Some f.item
 first-is true f id more h = refl
 first-is false f id more h = cc
 
@@ -27,12 +27,12 @@ first-left true f id more h = refl
 first-left false f id more h = cc
 
 pub found : (id : ℕ) (flight : List Flight) (at : ℕ) (f : Flight) → IsAt f flight at → (f.id == id) ≡ true
-    → acknowledged id (drop at flight) ≡ acknowledged id flight → acknowledged id flight ≡ option_map (λ (one : Flight). one.item) (slice_get flight at)
+    → item_in_flight id (drop at flight) ≡ item_in_flight id flight → item_in_flight id flight ≡ option_map (λ (one : Flight). one.item) (slice_get flight at)
 found id flight at f is same before =
-    let P : List Flight → Type 0 = λ rest. acknowledged id rest ≡ acknowledged id flight in
-    let Q : Option Flight → Type 0 = λ one. acknowledged id flight ≡ option_map (λ (f : Flight). f.item) one in
-    let R : Option Item → Type 0 = λ item. item ≡ acknowledged id flight in
-    let first : Some f.item ≡ acknowledged id flight = subst R (first-is (f.id == id) f id (drop (suc at) flight) same) (subst P is.rest before) in
+    let P : List Flight → Type 0 = λ rest. item_in_flight id rest ≡ item_in_flight id flight in
+    let Q : Option Flight → Type 0 = λ one. item_in_flight id flight ≡ option_map (λ (f : Flight). f.item) one in
+    let R : Option Item → Type 0 = λ item. item ≡ item_in_flight id flight in
+    let first : Some f.item ≡ item_in_flight id flight = subst R (first-is (f.id == id) f id (drop (suc at) flight) same) (subst P is.rest before) in
     subst Q (sym is.there) (sym first)
 
 pub left : (id : ℕ) (flight : List Flight) (at : ℕ) (f : Flight) → IsAt f flight at → (f.id == id) ≡ true

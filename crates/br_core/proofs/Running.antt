@@ -23,10 +23,10 @@ use Rattle.br_core.specs.declared.state.Lane.{Lane}
 use Rattle.br_core.specs.declared.state.Open.{Open}
 use Rattle.br_core.specs.Begins.{begun, moment_of, new_lane}
 use Rattle.br_core.specs.Commands.{filter_for}
-use Rattle.br_core.specs.Runs.{Answered, AreAllowed, Brought, Came, CameDown, CameOver, Come, Handed, IsSent, LeavesKept, MayTell, Spooled, WasFound, after, after_from, done, done_from, stepped}
-use Rattle.br_core.specs.Sides.{acknowledged}
+use Rattle.br_core.specs.Runs.{Answered, AreAllowed, Brought, Came, CameDown, CameOver, Come, Handed, IsSent, LeavesKept, MayTell, Spooled, WasFound, after, after_from, run_done, done_from, stepped}
+use Rattle.br_core.specs.Sides.{item_in_flight}
 use Rattle.br_core.specs.Lanes.{lane_frame}
-use Rattle.br_core.specs.Steps.{emptied, id_in, lane_does}
+use Rattle.br_core.specs.Steps.{nothing_out, delivery_id, lane_does}
 use Rattle.br_core.proofs.Just.{Flown, Stand, event-just, sent-more}
 use Rattle.br_core.proofs.Lists.{all-map, later-on, no-more, one-more, regroup}
 use Rattle.br_core.proofs.Walk.{AreGood, AtPlaces, FirstMay, FrameCame, FrameIn, FrameMay, FrameOwn, ItemDone, LaneJust, LastJust, PacketDone, Reasons, Tells, Took, map-places}
@@ -155,13 +155,13 @@ last-on settings run more place (Some held) h =
 -- waits and what is in flight came, and what is in flight was sent. Commands came.
 abbrev pub Standing : Settings → List Come → Type 0
 Standing settings run =
-    Stand (Answered settings run) (Brought settings run) (Came settings run) (CameDown settings run) (done settings run)
+    Stand (Answered settings run) (Brought settings run) (Came settings run) (CameDown settings run) (run_done settings run)
     (after settings run).lanes (after settings run).waiting (after settings run).flight (after settings run).down.queue
 
 -- what an acknowledgement takes out of flight came, and was sent under the id
 taken-by : (Came : Item → Type 0) (out : List Action) (id : ℕ) (one : Flight) (more : List Flight) (item : Item) (c : Bool) → (one.id == id) ≡ c → Flown Came out one
-    → (acknowledged id more ≡ Some item → Came item × IsSent id item out)
-    → (if c then Some one.item else acknowledged id more) ≡ Some item → Came item × IsSent id item out
+    → (item_in_flight id more ≡ Some item → Came item × IsSent id item out)
+    → (if c then Some one.item else item_in_flight id more) ≡ Some item → Came item × IsSent id item out
 taken-by Came out id one more item true same h k e =
     let it : one.item ≡ item = cc in
     let under : one.id ≡ id = eqb-true one.id id same in
@@ -169,7 +169,7 @@ taken-by Came out id one more item true same h k e =
     subst (λ (x : Item). Came x × IsSent id x out) it (h.0, sent)
 taken-by Came out id one more item false same h k e = k e
 
-taken-out : (Came : Item → Type 0) (out : List Action) (id : ℕ) (f : List Flight) (item : Item) → AllByRecursion (Flown Came out) f → acknowledged id f ≡ Some item
+taken-out : (Came : Item → Type 0) (out : List Action) (id : ℕ) (f : List Flight) (item : Item) → AllByRecursion (Flown Came out) f → item_in_flight id f ≡ Some item
     → Came item × IsSent id item out
 taken-out Came out id [] item h e = cc
 taken-out Came out id (one ∷ more) item h e = taken-by Came out id one more item (one.id == id) refl h.0 (taken-out Came out id more item h.1) e
@@ -181,7 +181,7 @@ module _ (settings : Settings) (before : List Come) (moment : ℕ) (stand : Stan
   grown event = before ++ (event, moment) ∷ []
 
   abbrev here : Bridge
-  here = emptied (after settings before)
+  here = nothing_out (after settings before)
 
   -- what the lane makes of a frame, and what the bridge does
   abbrev made : ℕ → Frame → LaneSettings → Lane → Bridge
@@ -262,10 +262,10 @@ module _ (settings : Settings) (before : List Come) (moment : ℕ) (stand : Stan
       accepted-first topic_id msg_id code here.down.queue doing asked accepted refl stand.3
   command-reasons frame = tt
 
-  pub handed-item : (id : ℕ) (item : Option Item) → acknowledged id here.flight ≡ item → ItemDone (Handed settings (grown (events.Broker (packets.PubAck id)))) item
+  pub handed-item : (id : ℕ) (item : Option Item) → item_in_flight id here.flight ≡ item → ItemDone (Handed settings (grown (events.Broker (packets.PubAck id)))) item
   handed-item id None e = tt
   handed-item id (Some item) e =
-      let has : Came settings before item × IsSent id item (done settings before) = taken-out (Came settings before) (done settings before) id here.flight item stand.2 e in
+      let has : Came settings before item × IsSent id item (run_done settings before) = taken-out (Came settings before) (run_done settings before) id here.flight item stand.2 e in
       record {
         earlier = before;
         later = [];
@@ -280,7 +280,7 @@ module _ (settings : Settings) (before : List Come) (moment : ℕ) (stand : Stan
       }
 
   old-publication : (delivery : Delivery) (retain : Bool) (topic body : List ℕ) → retain ≡ true → LeavesKept (filter_for topic settings.downs)
-      → Tells (MayTell settings (grown (events.Broker (packets.Publish delivery retain topic body)))) (id_in delivery)
+      → Tells (MayTell settings (grown (events.Broker (packets.Publish delivery retain topic body)))) (delivery_id delivery)
   old-publication deliveries.Once retain topic body e left = λ wanted. cc
   old-publication (deliveries.Acknowledged id dup) retain topic body e left = λ wanted.
       inr (inr (record {
@@ -295,7 +295,7 @@ module _ (settings : Settings) (before : List Come) (moment : ℕ) (stand : Stan
 
   broker-reasons : (packet : Packet)
       → PacketDone (Handed settings (grown (events.Broker packet))) (MayTell settings (grown (events.Broker packet))) (CameDown settings (grown (events.Broker packet))) settings packet here
-  broker-reasons (packets.PubAck id) = handed-item id (acknowledged id here.flight) refl
+  broker-reasons (packets.PubAck id) = handed-item id (item_in_flight id here.flight) refl
   broker-reasons (packets.Publish delivery retain topic body) = (
     λ e left. old-publication delivery retain topic body e left,
     record {
@@ -358,11 +358,11 @@ handed-answers settings run number h = inl h
 
 -- what stands before a step, in the words of the run that it ends
 lifted : (settings : Settings) (before : List Come) (come : Come) → Standing settings before
-    → Stand (Answered settings (before ++ come ∷ [])) (Brought settings (before ++ come ∷ [])) (Came settings (before ++ come ∷ [])) (CameDown settings (before ++ come ∷ [])) (done settings before ++ [])
+    → Stand (Answered settings (before ++ come ∷ [])) (Brought settings (before ++ come ∷ [])) (Came settings (before ++ come ∷ [])) (CameDown settings (before ++ come ∷ [])) (run_done settings before ++ [])
     (after settings before).lanes (after settings before).waiting (after settings before).flight (after settings before).down.queue
 lifted settings before come h =
     let run : List Come = before ++ come ∷ [] in
-    let out : List Action = done settings before in
+    let out : List Action = run_done settings before in
     let flown : (one : Flight) → Flown (Came settings before) out one → Flown (Came settings run) (out ++ []) one =
     λ one p. (came-on settings before (come ∷ []) one.item p.0, sent-more one.id one.item out [] p.1) in (
       map-places (LaneJust (Answered settings before) (Brought settings before)) (LaneJust (Answered settings run) (Brought settings run))
@@ -376,7 +376,7 @@ lifted settings before come h =
 abbrev Stepped : Settings → List Come → Event → ℕ → Type 0
 Stepped settings before event moment =
     Stand (Answered settings (before ++ (event, moment) ∷ [])) (Brought settings (before ++ (event, moment) ∷ [])) (Came settings (before ++ (event, moment) ∷ []))
-    (CameDown settings (before ++ (event, moment) ∷ [])) (done settings before ++ (stepped settings (after settings before) (event, moment)).out)
+    (CameDown settings (before ++ (event, moment) ∷ [])) (run_done settings before ++ (stepped settings (after settings before) (event, moment)).out)
     (stepped settings (after settings before) (event, moment)).lanes (stepped settings (after settings before) (event, moment)).waiting
     (stepped settings (after settings before) (event, moment)).flight (stepped settings (after settings before) (event, moment)).down.queue
     × AreAllowed settings (before ++ (event, moment) ∷ []) (stepped settings (after settings before) (event, moment)).out
@@ -384,16 +384,16 @@ Stepped settings before event moment =
 step-just : (settings : Settings) (before : List Come) (event : Event) (moment : ℕ) → Standing settings before → Stepped settings before event moment
 step-just settings before event moment h =
     let run : List Come = before ++ (event, moment) ∷ [] in
-    event-just (Answered settings run) (Handed settings run) (handed-answers settings run) (Brought settings run) (MayTell settings run) (Came settings run) (CameDown settings run) (done settings before)
-    settings event (moment_of moment) (emptied (after settings before)) (reasons settings before moment h event) (lifted settings before (event, moment) h, tt)
+    event-just (Answered settings run) (Handed settings run) (handed-answers settings run) (Brought settings run) (MayTell settings run) (Came settings run) (CameDown settings run) (run_done settings before)
+    settings event (moment_of moment) (nothing_out (after settings before)) (reasons settings before moment h event) (lifted settings before (event, moment) h, tt)
 
 standing-one : (settings : Settings) (before : List Come) (come : Come) → Standing settings before → Standing settings (before ++ come ∷ [])
 standing-one settings before come h =
     let run : List Come = before ++ come ∷ [] in
     let next : Bridge = stepped settings (after settings before) come in
     let after_it : after settings run ≡ next = after-one settings (begun settings) before come in
-    let done_it : done settings run ≡ done settings before ++ next.out = done-one settings (begun settings) before come in
-    let P : Bridge → Type 0 = λ b. Stand (Answered settings run) (Brought settings run) (Came settings run) (CameDown settings run) (done settings run) b.lanes b.waiting b.flight b.down.queue in
+    let done_it : run_done settings run ≡ run_done settings before ++ next.out = done-one settings (begun settings) before come in
+    let P : Bridge → Type 0 = λ b. Stand (Answered settings run) (Brought settings run) (Came settings run) (CameDown settings run) (run_done settings run) b.lanes b.waiting b.flight b.down.queue in
     let Q : List Action → Type 0 = λ out. Stand (Answered settings run) (Brought settings run) (Came settings run) (CameDown settings run) out next.lanes next.waiting next.flight next.down.queue in
     subst P (sym after_it) (subst Q (sym done_it) (step-just settings before come.0 come.1 h).0)
 

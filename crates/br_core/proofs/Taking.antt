@@ -27,29 +27,29 @@ use Rattle.br_core.specs.declared.state.Side.{Side}
 use Rattle.br_core.specs.declared.state.Side.TheVariants as sides
 use Rattle.br_core.specs.Begins.{moment_of}
 use Rattle.br_core.specs.Lanes as lane
-use Rattle.br_core.specs.Runs.{Come, IsAtOne, IsIn, IsOne, IsTaken, IsToStore, after, found_again, published, stepped}
-use Rattle.br_core.specs.Sides.{does, free_id, has_window, kept_at, sent_at, takes, takes_at, waits}
-use Rattle.br_core.specs.Steps.{emptied, is_next, lane_does}
+use Rattle.br_core.specs.Runs.{Come, IsAtOne, IsIn, IsOne, TakesItsNumber, IsToStore, after, found_again, publish_comes, stepped}
+use Rattle.br_core.specs.Sides.{does, free_packet_id, has_window, kept_while_away, item_sent, takes, takes_at, item_waits}
+use Rattle.br_core.specs.Steps.{nothing_out, comes_in_order, lane_does}
 use Rattle.br_core.proofs.Keeps.{flies-last, waits-last}
 
 module _ (n : ℕ) (settings : Settings) where
   -- ---- a reading that is taken
 
-  waits-in : (item : Item) (b : Bridge) → item.number ≡ n → item.qos ≡ levels.One → IsIn n (waits item b)
+  waits-in : (item : Item) (b : Bridge) → item.number ≡ n → item.qos ≡ levels.One → IsIn n (item_waits item b)
   waits-in item b e q = inl (waits-last n b.waiting item e (subst IsOne (sym q) tt))
 
-  offered-by : (c : Bool) (item : Item) (b : Bridge) → item.number ≡ n → item.qos ≡ levels.One → IsIn n (if c then sent_at item.qos item b else waits item b)
+  offered-by : (c : Bool) (item : Item) (b : Bridge) → item.number ≡ n → item.qos ≡ levels.One → IsIn n (if c then item_sent item.qos item b else item_waits item b)
   offered-by true item b e q =
-      let one : Flight = record { id = free_id b.packet_id b.flight; item = item } in
-      let flies : IsIn n (sent_at levels.One item b) = inr (flies-last n b.flight one e) in
-      subst (λ qos. IsIn n (sent_at qos item b)) (sym q) flies
+      let one : Flight = record { id = free_packet_id b.packet_id b.flight; item = item } in
+      let flies : IsIn n (item_sent levels.One item b) = inr (flies-last n b.flight one e) in
+      subst (λ qos. IsIn n (item_sent qos item b)) (sym q) flies
   offered-by false item b e q = waits-in item b e q
 
   pub takes-in : (side : Side) (item : Item) (b : Bridge) → item.number ≡ n → item.qos ≡ levels.One → IsIn n (takes_at side settings item b)
   takes-in sides.Up item b e q = offered-by ((length b.waiting == 0) && has_window settings item.qos b.flight) item b e q
   takes-in side item b e q =
-      let kept : IsIn n (kept_at levels.One item b) = waits-in item b e q in
-      subst (λ qos. IsIn n (kept_at qos item b)) (sym q) kept
+      let kept : IsIn n (kept_while_away levels.One item b) = waits-in item b e q in
+      subst (λ qos. IsIn n (kept_while_away qos item b)) (sym q) kept
 
   -- ---- and goes into the spool
 
@@ -84,9 +84,9 @@ module _ (n : ℕ) (settings : Settings) where
   brings-taken place name up topic_id msg_id body x b e =
       let brought : Bridge = lane.seated place (record x { last = Some (lane.open_of b.number name topic_id msg_id body) }) b in
       let item : Item = lane.item_of b.number place levels.One up body in
-      let counted : Bridge = lane.counted settings place levels.One up body brought in
+      let counted : Bridge = lane.reading_counted settings place levels.One up body brought in
       let taken : IsIn n counted = takes-in b.side item (record brought { number = b.number + 1 }) e refl in
-      pick (lane.has_room settings body b) (lane.stored settings item counted) (lane.asleep_in x.phase place x b)
+      pick (lane.reading_has_room settings body b) (lane.stored settings item counted) (lane.asleep_in x.phase place x b)
       (inr (stored-by settings.spools item counted e taken)) (asleep-taken x.phase place x b e)
 
   again-taken : (c : Bool) (place topic_id msg_id : ℕ) (held : Open) (x : Lane) (b : Bridge) → b.number ≡ n → Taken (lane.again_at c place topic_id msg_id held x b)
@@ -107,15 +107,15 @@ module _ (n : ℕ) (settings : Settings) where
   named-taken (Some up) kind place name topic_id msg_id body x b e = brings-if-taken x.last place name up topic_id msg_id body x b e
 
   known-taken : (name : Option ℕ) (kind : TopicIdType) (own : LaneSettings) (place topic_id msg_id : ℕ) (body : List ℕ) (x : Lane) (b : Bridge) → b.number ≡ n
-      → Taken (lane.known_at name field_levels.One kind settings own place topic_id msg_id body x b)
+      → Taken (lane.topic_known_at name field_levels.One kind settings own place topic_id msg_id body x b)
   known-taken None kind own place topic_id msg_id body x b e = inl e
   known-taken (Some name) kind own place topic_id msg_id body x b e = named-taken (slice_get own.names name) kind place name topic_id msg_id body x b e
 
   publication-taken : (own : LaneSettings) (place : ℕ) (flags : Flags) (topic_id msg_id : ℕ) (body : List ℕ) (x : Lane) (b : Bridge) → IsAtOne flags → b.number ≡ n
-      → Taken (lane.publication settings own place flags topic_id msg_id body x b)
+      → Taken (lane.lane_publication settings own place flags topic_id msg_id body x b)
   publication-taken own place flags topic_id msg_id body x b one e =
-      let name : Option ℕ = lane.name_of (kind_of flags.bits) topic_id own.names x.ids in
-      let P : FieldQos → Type 0 = λ qos. Taken (lane.known_at name qos (kind_of flags.bits) settings own place topic_id msg_id body x b) in
+      let name : Option ℕ = lane.name_meant (kind_of flags.bits) topic_id own.names x.ids in
+      let P : FieldQos → Type 0 = λ qos. Taken (lane.topic_known_at name qos (kind_of flags.bits) settings own place topic_id msg_id body x b) in
       subst P (sym one) (known-taken name (kind_of flags.bits) own place topic_id msg_id body x b e)
 
   frame-taken : (phase : Phase) (own : LaneSettings) (place : ℕ) (m : Moment) (flags : Flags) (topic_id msg_id : ℕ) (body : List ℕ) (x : Lane) (b : Bridge)
@@ -125,7 +125,7 @@ module _ (n : ℕ) (settings : Settings) where
   frame-taken (phases.Subscribing next) own place m flags topic_id msg_id body x b one e =
       publication-taken own place flags topic_id msg_id body x b one e
   frame-taken phases.Listening own place m flags topic_id msg_id body x b one e =
-      publication-taken own place flags topic_id msg_id body (lane.heard m x) b one e
+      publication-taken own place flags topic_id msg_id body (lane.lane_heard m x) b one e
   frame-taken phases.Asleep own place m flags topic_id msg_id body x b one e = inl e
 
   pub lane-taken : (own : Option LaneSettings) (x : Option Lane) (place : ℕ) (m : Moment) (flags : Flags) (topic_id msg_id : ℕ) (body : List ℕ) (b : Bridge)
@@ -138,10 +138,10 @@ module _ (n : ℕ) (settings : Settings) where
 -- ---- the laws
 
 pub takes-next : (settings : Settings) (before : List Come) (place topic msg_id moment : ℕ) (flags : Flags) (body : List ℕ) → IsAtOne flags
-    → IsTaken settings before (published place flags topic msg_id body moment)
+    → TakesItsNumber settings before (publish_comes place flags topic msg_id body moment)
 takes-next settings before place topic msg_id moment flags body one =
     let b : Bridge = after settings before in
-    lane-taken b.number settings (slice_get settings.lanes place) (slice_get b.lanes place) place (moment_of moment) flags topic msg_id body (emptied b) one refl
+    lane-taken b.number settings (slice_get settings.lanes place) (slice_get b.lanes place) place (moment_of moment) flags topic msg_id body (nothing_out b) one refl
 
 one-is : (qos : Qos) → IsOne qos → qos ≡ levels.One
 one-is levels.Zero h = absurd h
@@ -151,9 +151,9 @@ found-by : (n : ℕ) (c : Bool) (x y : Bridge) → c ≡ true → IsIn n x → I
 found-by n true x y e h = h
 found-by n false x y e h = cc
 
-pub finds-again : (settings : Settings) (before : List Come) (item : Item) (moment : ℕ) → IsOne item.qos → is_next item (after settings before) ≡ true
+pub finds-again : (settings : Settings) (before : List Come) (item : Item) (moment : ℕ) → IsOne item.qos → comes_in_order item (after settings before) ≡ true
     → IsIn item.number (stepped settings (after settings before) (found_again item moment))
 finds-again settings before item moment one is =
-    let b : Bridge = emptied (after settings before) in
+    let b : Bridge = nothing_out (after settings before) in
     let next : Bridge = record b { number = item.number + 1 } in
-    found-by item.number (is_next item b) (takes settings item next) b is (takes-in item.number settings b.side item next refl (one-is item.qos one))
+    found-by item.number (comes_in_order item b) (takes settings item next) b is (takes-in item.number settings b.side item next refl (one-is item.qos one))

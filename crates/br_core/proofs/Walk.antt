@@ -46,7 +46,7 @@ use Rattle.br_core.specs.declared.state.Phase.TheVariants as phases
 use Rattle.br_core.specs.declared.state.Side.{Side}
 use Rattle.br_core.specs.declared.state.Side.TheVariants as sides
 use Rattle.br_core.specs.declared.state.TheConstants.{BROKER_KEEP_ALIVE, KEEP_ALIVE, LAST_NUMBER, MAX_IDS, MAX_NAMES, SLEEP, TRIES}
-use Rattle.br_core.specs.Sides.{acknowledged, all_again, at_once, does, free_id, has_window, in_flight, kept_at, left_in_flight, next_id, offered, once_more, out_again, sends, sent_along, sent_at, takes, takes_at, waits}
+use Rattle.br_core.specs.Sides.{item_in_flight, all_again, at_once, does, free_packet_id, has_window, in_flight, kept_while_away, left_in_flight, next_id, offered, once_more, out_again, sends, sent_along, item_sent, takes, takes_at, item_waits}
 use Rattle.br_core.specs.Lanes as lane
 use Rattle.br_core.specs.Commands as command
 use Rattle.br_core.specs.Steps as whole
@@ -115,7 +115,7 @@ refusal-at-not : (phase : Phase) → lane.refusal_at phase ≡ 0 → ⊥
 refusal-at-not (phases.Subscribing next) e = asked-again e
 refusal-at-not phase e = refused e
 
-refusal-not : (kind : TopicIdType) (phase : Phase) → lane.refusal kind phase ≡ 0 → ⊥
+refusal-not : (kind : TopicIdType) (phase : Phase) → lane.refusal_code kind phase ≡ 0 → ⊥
 refusal-not kinds.Normal phase e = refused e
 refusal-not kind phase e = refusal-at-not phase e
 
@@ -138,7 +138,7 @@ FrameOwn Own place frame b after = Unit {0}
 -- and what it brings under a name came, for a lane of these names and ids
 abbrev pub FrameCame : (Item → Type 0) → LaneSettings → List Named → ℕ → Frame → Bridge → Bridge → Type 0
 FrameCame Came own ids place (frames.Publish flags topic msg_id body) b after =
-    Took b after → (name : ℕ) (up : UpName) (qos : Qos) → lane.name_of (kind_of flags.bits) topic own.names ids ≡ Some name
+    Took b after → (name : ℕ) (up : UpName) (qos : Qos) → lane.name_meant (kind_of flags.bits) topic own.names ids ≡ Some name
     → slice_get own.names name ≡ Some up → Came (lane.item_of b.number place qos up body)
 FrameCame Came own ids place frame b after = Unit {0}
 
@@ -163,14 +163,14 @@ FirstAsked Asked (first ∷ more) = Asked first
 -- the command that a publication is
 abbrev pub command-in : Settings → Delivery → List ℕ → List ℕ → Command
 command-in settings delivery topic body =
-    record { id = whole.id_in delivery; from = topic; topic = field_topic settings topic; body = body }
+    record { id = whole.delivery_id delivery; from = topic; topic = field_topic settings topic; body = body }
 
 -- a PUBACK makes the reading in flight done; what the broker had kept may be told at once; what it
 -- publishes came
 abbrev pub PacketDone : (ℕ → Type 0) → (ℕ → Type 0) → (Command → Type 0) → Settings → Packet → Bridge → Type 0
-PacketDone Done May Asked settings (packets.PubAck id) b = ItemDone Done (acknowledged id b.flight)
+PacketDone Done May Asked settings (packets.PubAck id) b = ItemDone Done (item_in_flight id b.flight)
 PacketDone Done May Asked settings (packets.Publish delivery retain topic body) b =
-    (retain ≡ true → LeavesKept (command.filter_for topic settings.downs) → Tells May (whole.id_in delivery)) × Asked (command-in settings delivery topic body)
+    (retain ≡ true → LeavesKept (command.filter_for topic settings.downs) → Tells May (whole.delivery_id delivery)) × Asked (command-in settings delivery topic body)
 PacketDone Done May Asked settings packet b = Unit {0}
 
 -- what the spool has is good
@@ -237,7 +237,7 @@ pub record IsWalked (Good : ℕ → Type 0) (Done : ℕ → Type 0) (Own : ℕ �
   pub counts : (m : ℕ) (l : List Lane) (out : List Action) (w : List Item) (f : List Flight) (n : ℕ) (q : List Command) → n ≤ m → P l out w f n q → P l out w f m q
   pub offers : (settings : Settings) (b : Bridge) → At P b → At P (sends settings b)
   pub repeated : (l : List Lane) (out : List Action) (w : List Item) (f : List Flight) (n : ℕ) (q : List Command) → P l out w f n q → P l (fold out_again out f) w f n q
-  pub left : (id : ℕ) (l : List Lane) (out : List Action) (w : List Item) (f : List Flight) (n : ℕ) (q : List Command) → ItemDone Done (acknowledged id f) → P l out w f n q
+  pub left : (id : ℕ) (l : List Lane) (out : List Action) (w : List Item) (f : List Flight) (n : ℕ) (q : List Command) → ItemDone Done (item_in_flight id f) → P l out w f n q
       → P l out w (left_in_flight id f) n q
   pub asks : (one : Command) (l : List Lane) (out : List Action) (w : List Item) (f : List Flight) (n : ℕ) (q : List Command) → Asked one → P l out w f n q → P l out w f n (q ++ one ∷ [])
   pub ends : (first : Command) (more : List Command) (l : List Lane) (out : List Action) (w : List Item) (f : List Flight) (n : ℕ) → P l out w f n (first ∷ more) → P l out w f n more
@@ -245,15 +245,15 @@ pub record IsWalked (Good : ℕ → Type 0) (Done : ℕ → Type 0) (Own : ℕ �
   pub owes : (l : List Lane) (out : List Action) (w : List Item) (f : List Flight) (n : ℕ) (q : List Command) → P l out w f n q → AllByRecursion Asked q
 
 -- a reading that is taken leaves the number of the next one as it was
-sent-number : (qos : Qos) (item : Item) (b : Bridge) → (sent_at qos item b).number ≡ b.number
+sent-number : (qos : Qos) (item : Item) (b : Bridge) → (item_sent qos item b).number ≡ b.number
 sent-number levels.Zero item b = refl
 sent-number levels.One item b = refl
 
-offered-number : (c : Bool) (item : Item) (b : Bridge) → (if c then sent_at item.qos item b else waits item b).number ≡ b.number
+offered-number : (c : Bool) (item : Item) (b : Bridge) → (if c then item_sent item.qos item b else item_waits item b).number ≡ b.number
 offered-number true item b = sent-number item.qos item b
 offered-number false item b = refl
 
-kept-number : (qos : Qos) (item : Item) (b : Bridge) → (kept_at qos item b).number ≡ b.number
+kept-number : (qos : Qos) (item : Item) (b : Bridge) → (kept_while_away qos item b).number ≡ b.number
 kept-number levels.Zero item b = refl
 kept-number levels.One item b = refl
 
@@ -275,7 +275,7 @@ took-second true b x y e h = cc
 took-second false b x y e h = h
 
 -- what is sent leaves what waits as it was
-pub sent-waiting : (qos : Qos) (item : Item) (b : Bridge) → (sent_at qos item b).waiting ≡ b.waiting
+pub sent-waiting : (qos : Qos) (item : Item) (b : Bridge) → (item_sent qos item b).waiting ≡ b.waiting
 sent-waiting levels.Zero item b = refl
 sent-waiting levels.One item b = refl
 
@@ -289,19 +289,19 @@ module _ (Came : Item → Type 0) (P : Held) (kept : IsKept Came P) where
   choose-kept true x y p q = p
   choose-kept false x y p q = q
 
-  sent-at-kept : (qos : Qos) (item : Item) (b : Bridge) → Came item → K b → K (sent_at qos item b)
+  sent-at-kept : (qos : Qos) (item : Item) (b : Bridge) → Came item → K b → K (item_sent qos item b)
   sent-at-kept levels.Zero item b came h = kept.goes item b.lanes b.out b.waiting b.flight b.number b.down.queue came h
-  sent-at-kept levels.One item b came h = kept.flies (free_id b.packet_id b.flight) item b.lanes b.out b.waiting b.flight b.number b.down.queue came h
+  sent-at-kept levels.One item b came h = kept.flies (free_packet_id b.packet_id b.flight) item b.lanes b.out b.waiting b.flight b.number b.down.queue came h
 
-  waits-kept : (item : Item) (b : Bridge) → Came item → K b → K (waits item b)
+  waits-kept : (item : Item) (b : Bridge) → Came item → K b → K (item_waits item b)
   waits-kept item b came h = kept.queued item b.lanes b.out b.waiting b.flight b.number b.down.queue came h
 
   offered-kept : (settings : Settings) (b : Bridge) (item : Item) → Came item → K b → K (offered settings b item)
   offered-kept settings b item came h =
-      choose-kept ((length b.waiting == 0) && has_window settings item.qos b.flight) (sent_at item.qos item b) (waits item b)
+      choose-kept ((length b.waiting == 0) && has_window settings item.qos b.flight) (item_sent item.qos item b) (item_waits item b)
       (sent-at-kept item.qos item b came h) (waits-kept item b came h)
 
-  kept-at-kept : (qos : Qos) (item : Item) (b : Bridge) → Came item → K b → K (kept_at qos item b)
+  kept-at-kept : (qos : Qos) (item : Item) (b : Bridge) → Came item → K b → K (kept_while_away qos item b)
   kept-at-kept levels.Zero item b came h = h
   kept-at-kept levels.One item b came h = waits-kept item b came h
 
@@ -316,17 +316,17 @@ module _ (Came : Item → Type 0) (P : Held) (kept : IsKept Came P) where
 
   -- ---- what waits is sent
 
-  first-kept : (qos : Qos) (item : Item) (more : List Item) (b : Bridge) → item.qos ≡ qos → P b.lanes b.out (item ∷ more) b.flight b.number b.down.queue → K (sent_at qos item (record b { waiting = more }))
+  first-kept : (qos : Qos) (item : Item) (more : List Item) (b : Bridge) → item.qos ≡ qos → P b.lanes b.out (item ∷ more) b.flight b.number b.down.queue → K (item_sent qos item (record b { waiting = more }))
   first-kept levels.Zero item more b e h = kept.goes_first item more b.lanes b.out b.flight b.number b.down.queue e h
-  first-kept levels.One item more b e h = kept.flies_first (free_id b.packet_id b.flight) item more b.lanes b.out b.flight b.number b.down.queue h
+  first-kept levels.One item more b e h = kept.flies_first (free_packet_id b.packet_id b.flight) item more b.lanes b.out b.flight b.number b.down.queue h
 
   along-kept : (settings : Settings) (items : List Item) (b : Bridge) → b.waiting ≡ items → K b → K (sent_along settings items b)
   along-kept settings [] b e h = h
   along-kept settings (item ∷ more) b e h =
       let first : Bridge = record b { waiting = more } in
       let here : P b.lanes b.out (item ∷ more) b.flight b.number b.down.queue = subst (λ (w : List Item). P b.lanes b.out w b.flight b.number b.down.queue) e h in
-      choose-kept (has_window settings item.qos b.flight) (sent_along settings more (sent_at item.qos item first)) b
-      (along-kept settings more (sent_at item.qos item first) (sent-waiting item.qos item first) (first-kept item.qos item more b refl here)) h
+      choose-kept (has_window settings item.qos b.flight) (sent_along settings more (item_sent item.qos item first)) b
+      (along-kept settings more (item_sent item.qos item first) (sent-waiting item.qos item first) (first-kept item.qos item more b refl here)) h
 
   pub sends-kept : (settings : Settings) (b : Bridge) → K b → K (sends settings b)
   sends-kept settings b h = along-kept settings b.waiting b refl h
@@ -396,7 +396,7 @@ module _ (Good : ℕ → Type 0) (Done : ℕ → Type 0) (lift : (n : ℕ) → D
       says-just place (frames.Disconnect (Some SLEEP)) (record x { phase = phases.Asleep; tries = 0 }) b tt p h
 
   counted-just : (settings : Settings) (place : ℕ) (qos : Qos) (up : UpName) (body : List ℕ) (b : Bridge) → Came (lane.item_of b.number place qos up body) → J b
-      → J (lane.counted settings place qos up body b)
+      → J (lane.reading_counted settings place qos up body b)
   counted-just settings place qos up body b came h =
       let same : b.number ≤ b.number = omega arith in
       walked.taken settings (lane.item_of b.number place qos up body) b same came h
@@ -412,13 +412,13 @@ module _ (Good : ℕ → Type 0) (Done : ℕ → Type 0) (lift : (n : ℕ) → D
       let brought : Lane = record x { last = Some (lane.open_of b.number name topic_id msg_id body) } in
       let item : Item = lane.item_of b.number place levels.One up body in
       let seated : Bridge = lane.seated place brought b in
-      let counted : Bridge = lane.counted settings place levels.One up body seated in
+      let counted : Bridge = lane.reading_counted settings place levels.One up body seated in
       let kept : Bridge = lane.stored settings item counted in
       let asleep : Bridge = lane.asleep_in x.phase place x b in
       let more : Took b kept = stored-number settings.spools item counted ∙ takes-number b.side settings item (record seated { number = b.number + 1 }) in
-      choose-by (lane.has_room settings body b) kept asleep
+      choose-by (lane.reading_has_room settings body b) kept asleep
       (λ e.
-      let took : Took b (lane.brings settings place name up topic_id msg_id body x b) = took-first (lane.has_room settings body b) b kept asleep e more in
+      let took : Took b (lane.brings settings place name up topic_id msg_id body x b) = took-first (lane.reading_has_room settings body b) b kept asleep e more in
       stored-just settings item counted (came took)
       (counted-just settings place levels.One up body seated (came took) (put-just place brought b (own took, unanswered) h)))
       (asleep-in-just x.phase place x b p h)
@@ -457,10 +457,10 @@ module _ (Good : ℕ → Type 0) (Done : ℕ → Type 0) (lift : (n : ℕ) → D
   passes-just settings place up body x b came p h =
       let seated : Bridge = lane.seated place x b in
       let item : Item = lane.item_of b.number place levels.Zero up body in
-      let counted : Bridge = lane.counted settings place levels.Zero up body seated in
+      let counted : Bridge = lane.reading_counted settings place levels.Zero up body seated in
       let more : Took b counted = takes-number b.side settings item (record seated { number = b.number + 1 }) in
-      choose-by (lane.goes_on settings body b) counted seated
-      (λ e. counted-just settings place levels.Zero up body seated (came (took-first (lane.goes_on settings body b) b counted seated e more)) (put-just place x b p h))
+      choose-by (lane.reading_goes_on settings body b) counted seated
+      (λ e. counted-just settings place levels.Zero up body seated (came (took-first (lane.reading_goes_on settings body b) b counted seated e more)) (put-just place x b p h))
       (put-just place x b p h)
 
   publication-at-just : (qos : FieldQos) (settings : Settings) (place name : ℕ) (up : UpName) (topic_id msg_id : ℕ) (body : List ℕ) (x : Lane) (b : Bridge)
@@ -474,7 +474,7 @@ module _ (Good : ℕ → Type 0) (Done : ℕ → Type 0) (lift : (n : ℕ) → D
 
   unknown-at-just : (qos : FieldQos) (kind : TopicIdType) (place topic_id msg_id : ℕ) (x : Lane) (b : Bridge) → L place x → J b → J (lane.unknown_at qos kind place topic_id msg_id x b)
   unknown-at-just field_levels.One kind place topic_id msg_id x b p h =
-      says-just place (frames.PubAck topic_id msg_id (lane.refusal kind x.phase)) x b (λ e. absurd (refusal-not kind x.phase e)) p h
+      says-just place (frames.PubAck topic_id msg_id (lane.refusal_code kind x.phase)) x b (λ e. absurd (refusal-not kind x.phase e)) p h
   unknown-at-just qos kind place topic_id msg_id x b p h = put-just place x b p h
 
   named-at-just : (up : Option UpName) (qos : FieldQos) (kind : TopicIdType) (settings : Settings) (place name topic_id msg_id : ℕ) (body : List ℕ) (x : Lane) (b : Bridge)
@@ -487,10 +487,10 @@ module _ (Good : ℕ → Type 0) (Done : ℕ → Type 0) (lift : (n : ℕ) → D
       publication-at-just qos settings place name up topic_id msg_id body x b own (λ took level. cames took up level refl) p h
 
   known-at-just : (name : Option ℕ) (qos : FieldQos) (kind : TopicIdType) (settings : Settings) (own : LaneSettings) (place topic_id msg_id : ℕ) (body : List ℕ) (x : Lane) (b : Bridge)
-      → (Took b (lane.known_at name qos kind settings own place topic_id msg_id body x b) → Own place b.number msg_id)
-      → (Took b (lane.known_at name qos kind settings own place topic_id msg_id body x b) → (n : ℕ) (u : UpName) (level : Qos) → name ≡ Some n → slice_get own.names n ≡ Some u
+      → (Took b (lane.topic_known_at name qos kind settings own place topic_id msg_id body x b) → Own place b.number msg_id)
+      → (Took b (lane.topic_known_at name qos kind settings own place topic_id msg_id body x b) → (n : ℕ) (u : UpName) (level : Qos) → name ≡ Some n → slice_get own.names n ≡ Some u
       → Came (lane.item_of b.number place level u body)) → L place x → J b
-      → J (lane.known_at name qos kind settings own place topic_id msg_id body x b)
+      → J (lane.topic_known_at name qos kind settings own place topic_id msg_id body x b)
   known-at-just None qos kind settings own place topic_id msg_id body x b mine cames p h = unknown-at-just qos kind place topic_id msg_id x b p h
   known-at-just (Some name) qos kind settings own place topic_id msg_id body x b mine cames p h =
       named-at-just (slice_get own.names name) qos kind settings place name topic_id msg_id body x b mine (λ took u level e. cames took name u level refl e) p h
@@ -498,7 +498,7 @@ module _ (Good : ℕ → Type 0) (Done : ℕ → Type 0) (lift : (n : ℕ) → D
   goes-away-just : (place : ℕ) (m : Moment) (x : Lane) (b : Bridge) → L place x → J b → J (lane.goes_away place m x b)
   goes-away-just place m x b p h = put-just place (record x { phase = phases.Away; tries = 0; due = m.at }) b p h
 
-  registered-just : (name : Option ℕ) (place : ℕ) (m : Moment) (topic_id msg_id : ℕ) (x : Lane) (b : Bridge) → L place x → J b → J (lane.registered name place m topic_id msg_id x b)
+  registered-just : (name : Option ℕ) (place : ℕ) (m : Moment) (topic_id msg_id : ℕ) (x : Lane) (b : Bridge) → L place x → J b → J (lane.name_registered name place m topic_id msg_id x b)
   registered-just None place m topic_id msg_id x b p h = says-just place (frames.RegAck topic_id msg_id 3) x b tt p h
   registered-just (Some name) place m topic_id msg_id x b p h =
       let known : Lane = record x { ids = record { id = topic_id; name = name } ∷ x.ids } in
@@ -509,9 +509,9 @@ module _ (Good : ℕ → Type 0) (Done : ℕ → Type 0) (lift : (n : ℕ) → D
       → FrameOwn Own place frame b (lane.awake_frame settings own place m frame x b) → FrameCame Came own x.ids place frame b (lane.awake_frame settings own place m frame x b)
       → L place x → J b → J (lane.awake_frame settings own place m frame x b)
   awake-just settings own place m (frames.Publish flags topic msg_id body) x b mine cames p h =
-      known-at-just (lane.name_of (kind_of flags.bits) topic own.names x.ids) (qos_of flags.bits) (kind_of flags.bits) settings own place topic msg_id body x b mine cames p h
+      known-at-just (lane.name_meant (kind_of flags.bits) topic own.names x.ids) (qos_of flags.bits) (kind_of flags.bits) settings own place topic msg_id body x b mine cames p h
   awake-just settings own place m (frames.Register topic_id msg_id name) x b mine cames p h =
-      registered-just (lane.place_of name own.names) place m topic_id msg_id x b p h
+      registered-just (lane.name_place name own.names) place m topic_id msg_id x b p h
   awake-just settings own place m (frames.Disconnect duration) x b mine cames p h = goes-away-just place m x b p h
   awake-just settings own place m frame x b mine cames p h = put-just place x b p h
 
@@ -520,7 +520,7 @@ module _ (Good : ℕ → Type 0) (Done : ℕ → Type 0) (lift : (n : ℕ) → D
       choose (code == 0) (lane.subscribing own place 0 m (record x { tries = 0 }) b) b (subscribing-just own place 0 m (record x { tries = 0 }) b p h) h
   connected-just own place m frame x b p h = h
 
-  subscribed-just : (own : LaneSettings) (place next : ℕ) (m : Moment) (topic_id code : ℕ) (x : Lane) (b : Bridge) → L place x → J b → J (lane.subscribed own place next m topic_id code x b)
+  subscribed-just : (own : LaneSettings) (place next : ℕ) (m : Moment) (topic_id code : ℕ) (x : Lane) (b : Bridge) → L place x → J b → J (lane.lane_subscribed own place next m topic_id code x b)
   subscribed-just own place next m topic_id code x b p h =
       let named : Lane = record x { tries = 0; ids = lane.with_id topic_id next x.ids } in
       choose (code == 0) (lane.subscribing own place (next + 1) m named b) b (subscribing-just own place (next + 1) m named b p h) h
@@ -529,7 +529,7 @@ module _ (Good : ℕ → Type 0) (Done : ℕ → Type 0) (lift : (n : ℕ) → D
       → FrameOwn Own place frame b (lane.naming_frame settings own place next m frame x b)
       → FrameCame Came own x.ids place frame b (lane.naming_frame settings own place next m frame x b) → L place x → J b → J (lane.naming_frame settings own place next m frame x b)
   naming-just settings own place next m (frames.SubAck flags topic_id msg_id code) x b mine cames p h =
-      choose (lane.is_its next msg_id x) (lane.subscribed own place next m topic_id code x b) b (subscribed-just own place next m topic_id code x b p h) h
+      choose (lane.is_its next msg_id x) (lane.lane_subscribed own place next m topic_id code x b) b (subscribed-just own place next m topic_id code x b p h) h
   naming-just settings own place next m frame x b mine cames p h = awake-just settings own place m frame x b mine cames p h
 
   heard-lane : (c : Bool) (place : ℕ) (x y : Lane) → L place x → L place y → L place (if c then x else y)
@@ -547,13 +547,13 @@ module _ (Good : ℕ → Type 0) (Done : ℕ → Type 0) (lift : (n : ℕ) → D
   frame-in-just phases.Connecting settings own place m frame x b mine cames p h = connected-just own place m frame x b p h
   frame-in-just (phases.Subscribing next) settings own place m frame x b mine cames p h = naming-just settings own place next m frame x b mine cames p h
   frame-in-just phases.Listening settings own place m frame x b mine cames p h =
-      let same : (lane.heard m x).ids ≡ x.ids = heard-ids (x.tries == 0) x m in
-      let after : Bridge = lane.awake_frame settings own place m frame (lane.heard m x) b in
-      let heard : FrameCame Came own (lane.heard m x).ids place frame b after = subst (λ (ids : List Named). FrameCame Came own ids place frame b after) (sym same) cames in
-      awake-just settings own place m frame (lane.heard m x) b mine heard (heard-lane (x.tries == 0) place x (record x { tries = 0; due = m.ping }) p p) h
+      let same : (lane.lane_heard m x).ids ≡ x.ids = heard-ids (x.tries == 0) x m in
+      let after : Bridge = lane.awake_frame settings own place m frame (lane.lane_heard m x) b in
+      let heard : FrameCame Came own (lane.lane_heard m x).ids place frame b after = subst (λ (ids : List Named). FrameCame Came own ids place frame b after) (sym same) cames in
+      awake-just settings own place m frame (lane.lane_heard m x) b mine heard (heard-lane (x.tries == 0) place x (record x { tries = 0; due = m.ping }) p p) h
   frame-in-just phases.Asleep settings own place m frame x b mine cames p h = h
 
-  lane-again-just : (phase : Phase) (own : LaneSettings) (place : ℕ) (m : Moment) (x : Lane) (b : Bridge) → L place x → J b → J (lane.again phase own place m x b)
+  lane-again-just : (phase : Phase) (own : LaneSettings) (place : ℕ) (m : Moment) (x : Lane) (b : Bridge) → L place x → J b → J (lane.lane_again phase own place m x b)
   lane-again-just phases.Away own place m x b p h = connecting-just own place m x b h
   lane-again-just phases.Connecting own place m x b p h = connecting-just own place m x b h
   lane-again-just (phases.Subscribing next) own place m x b p h = subscribing-just own place next m x b p h
@@ -563,8 +563,8 @@ module _ (Good : ℕ → Type 0) (Done : ℕ → Type 0) (lift : (n : ℕ) → D
 
   lane-tick-just : (place : ℕ) (m : Moment) (own : LaneSettings) (x : Lane) (b : Bridge) → L place x → J b → J (lane.lane_tick place m own x b)
   lane-tick-just place m own x b p h =
-      choose (nat_lt m.at x.due) b (if nat_le TRIES x.tries then lane.gives_up place m x b else lane.again x.phase own place m x b) h
-      (choose (nat_le TRIES x.tries) (lane.gives_up place m x b) (lane.again x.phase own place m x b)
+      choose (nat_lt m.at x.due) b (if nat_le TRIES x.tries then lane.gives_up place m x b else lane.lane_again x.phase own place m x b) h
+      (choose (nat_le TRIES x.tries) (lane.gives_up place m x b) (lane.lane_again x.phase own place m x b)
       (does-just (actions.NextGateway place) (lane.goes_away place m x b) tt tt (goes-away-just place m x b p h))
       (lane-again-just x.phase own place m x b p h))
 
@@ -582,16 +582,16 @@ module _ (Good : ℕ → Type 0) (Done : ℕ → Type 0) (lift : (n : ℕ) → D
   answers-held-just : (last : Option Open) (number place : ℕ) (x : Lane) (b : Bridge) → LastJust Good Own place last → Good number → J b → J (lane.answers_open last number place x b)
   answers-held-just None number place x b o good h = h
   answers-held-just (Some held) number place x b o good h =
-      choose-by ((held.number == number) && not held.is_answered) (lane.answered_at (lane.is_awake x.phase) place held x b) b
-      (λ e. answered-at-just (lane.is_awake x.phase) place held x b o.0
+      choose-by ((held.number == number) && not held.is_answered) (lane.answered_at (lane.is_lane_awake x.phase) place held x b) b
+      (λ e. answered-at-just (lane.is_lane_awake x.phase) place held x b o.0
       (subst Good (sym (eqb-true held.number number (and_parts (held.number == number) (not held.is_answered) e).0)) good) h) h
 
   keeps-held-just : (last : Option Open) (below place : ℕ) (x : Lane) (b : Bridge) → LastJust Good Own place last → ((number : ℕ) → nat_lt number below ≡ true → Good number) → J b
       → J (lane.keeps_open last below place x b)
   keeps-held-just None below place x b o good h = h
   keeps-held-just (Some held) below place x b o good h =
-      choose-by (nat_lt held.number below && not held.is_answered) (lane.answered_at (lane.is_awake x.phase) place held x b) b
-      (λ e. answered-at-just (lane.is_awake x.phase) place held x b o.0
+      choose-by (nat_lt held.number below && not held.is_answered) (lane.answered_at (lane.is_lane_awake x.phase) place held x b) b
+      (λ e. answered-at-just (lane.is_lane_awake x.phase) place held x b o.0
       (good held.number (and_parts (nat_lt held.number below) (not held.is_answered) e).0) h) h
 
   -- ---- commands
@@ -610,7 +610,7 @@ module _ (Good : ℕ → Type 0) (Done : ℕ → Type 0) (lift : (n : ℕ) → D
   says-down-just : (frame : Frame) (down : Down) (b : Bridge) → IsCommand Asked frame → D down b → J (command.says_down frame down b)
   says-down-just frame down b given h = does-just (actions.ToCommands frame) (command.put_down down b) tt given h
 
-  told-just : (id : ℕ) (b : Bridge) → Tells May id → J b → J (command.told id b)
+  told-just : (id : ℕ) (b : Bridge) → Tells May id → J b → J (command.broker_told id b)
   told-just id b may h = choose-not (id == 0) b (does (actions.ToBroker (packets.PubAck id)) b) h (λ e. does-just (actions.ToBroker (packets.PubAck id)) b tt (may e) h)
 
   queued-just : (id : ℕ) (from topic body : List ℕ) (b : Bridge) → Asked (record { id = id; from = from; topic = topic; body = body }) → J b → J (command.queued id from topic body b)
@@ -618,10 +618,10 @@ module _ (Good : ℕ → Type 0) (Done : ℕ → Type 0) (lift : (n : ℕ) → D
       walked.asks (record { id = id; from = from; topic = topic; body = body }) b.lanes b.out b.waiting b.flight b.number b.down.queue asked h
 
   asked-just : (entry : Option DownFilter) (id : ℕ) (retain : Bool) (topic body : List ℕ) (b : Bridge) → (retain ≡ true → LeavesKept entry → Tells May id)
-      → Asked (record { id = id; from = topic; topic = topic_by entry topic; body = body }) → J b → J (command.asked entry id retain topic body b)
+      → Asked (record { id = id; from = topic; topic = topic_by entry topic; body = body }) → J b → J (command.command_asked entry id retain topic body b)
   asked-just None id retain topic body b may asked h = queued-just id topic [] body b asked h
   asked-just (Some entry) id retain topic body b may asked h =
-      choose-by (retain && not entry.retained) (command.told id b) (command.queued id topic (command.stripped entry.strip topic) body b)
+      choose-by (retain && not entry.retained) (command.broker_told id b) (command.queued id topic (command.stripped entry.strip topic) body b)
       (λ e. told-just id b (may (and_parts retain (not entry.retained) e).0 (unset entry.retained (and_parts retain (not entry.retained) e).1)) h) (queued-just id topic (command.stripped entry.strip topic) body b asked h)
 
   passed-over-just : (id : ℕ) (b : Bridge) → J b → J (command.passed_over id b)
@@ -631,9 +631,9 @@ module _ (Good : ℕ → Type 0) (Done : ℕ → Type 0) (lift : (n : ℕ) → D
       → Asked (record { id = id; from = topic; topic = topic_by (command.filter_for topic downs) topic; body = body }) → J b → J (command.commanded downs id retain topic body b)
   commanded-just downs id retain topic body b may asked h =
       let over : Bridge = command.passed_over id b in
-      let queued : Bridge = command.asked (command.filter_for topic downs) id retain topic body b in
-      choose (command.is_queued id b.down.queue) b (if command.is_full b.down then over else queued) h
-      (choose (command.is_full b.down) over queued
+      let queued : Bridge = command.command_asked (command.filter_for topic downs) id retain topic body b in
+      choose (command.is_queued id b.down.queue) b (if command.is_queue_full b.down then over else queued) h
+      (choose (command.is_queue_full b.down) over queued
       (passed-over-just id b h) (asked-just (command.filter_for topic downs) id retain topic body b may asked h))
 
   away-just : (m : Moment) (down : Down) (b : Bridge) → D down b → J (command.away m down b)
@@ -644,7 +644,7 @@ module _ (Good : ℕ → Type 0) (Done : ℕ → Type 0) (lift : (n : ℕ) → D
       says-down-just (frames.Publish (command.publish_flags dup short) topic_id (command.sent_id dup down.msg_id) first.body)
       (record down { doing = doings.Publishing; tries = once_more down.tries; due = m.retry; msg_id = command.sent_id dup down.msg_id }) b (first, asked, refl) h
 
-  registering-just : (m : Moment) (first : Command) (down : Down) (b : Bridge) → Asked first → D down b → J (command.registering m first down b)
+  registering-just : (m : Moment) (first : Command) (down : Down) (b : Bridge) → Asked first → D down b → J (command.command_registering m first down b)
   registering-just m first down b asked h =
       let asking : Down = record down { doing = doings.Registering; tries = once_more down.tries; due = m.retry; msg_id = next_id down.msg_id } in
       choose (nat_lt (length down.ids) MAX_NAMES) (command.says_down (frames.Register 0 (next_id down.msg_id) first.topic) asking b) (command.away m down b)
@@ -665,14 +665,14 @@ module _ (Good : ℕ → Type 0) (Done : ℕ → Type 0) (lift : (n : ℕ) → D
       (does-just (actions.Refuse down.line first why) (command.put_down told b) tt asked h) h
 
   sent-in-just : (phase : Phase) (dup : Bool) (m : Moment) (first : Command) (down : Down) (b : Bridge) → Asked first → D down b → J (command.sent_in phase dup m first down b)
-  sent-in-just phases.Listening dup m first down b asked h = sent-as-just (command.short_name first.topic) dup m first down b asked h
+  sent-in-just phases.Listening dup m first down b asked h = sent-as-just (command.short_name_id first.topic) dup m first down b asked h
   sent-in-just phase dup m first down b asked h = h
 
   begun-by-just : (why : Option Why) (dup : Bool) (m : Moment) (first : Command) (down : Down) (b : Bridge) → Asked first → D down b → J (command.begun_by why dup m first down b)
   begun-by-just (Some why) dup m first down b asked h = refusing-just why first down b asked h
   begun-by-just None dup m first down b asked h = sent-in-just down.phase dup m first down b asked h
 
-  begun-just : (queue : List Command) (dup : Bool) (m : Moment) (down : Down) (b : Bridge) → FirstAsked Asked queue → D down b → J (command.begun queue dup m down b)
+  begun-just : (queue : List Command) (dup : Bool) (m : Moment) (down : Down) (b : Bridge) → FirstAsked Asked queue → D down b → J (command.command_begun queue dup m down b)
   begun-just [] dup m down b asked h = h
   begun-just (first ∷ more) dup m down b asked h = begun-by-just (command.obstacle first) dup m first down b asked h
 
@@ -680,7 +680,7 @@ module _ (Good : ℕ → Type 0) (Done : ℕ → Type 0) (lift : (n : ℕ) → D
   begun-at-just doings.Nothing m b h = begun-just b.down.queue false m b.down b (asked-first b h) h
   begun-at-just doing m b h = h
 
-  begins-just : (m : Moment) (b : Bridge) → J b → J (command.begins m b)
+  begins-just : (m : Moment) (b : Bridge) → J b → J (command.command_begins m b)
   begins-just m b h = begun-at-just b.down.doing m b h
 
   done-with-just : (queue : List Command) (b : Bridge) → FirstMay May queue → P b.lanes b.out b.waiting b.flight b.number queue → J b → J (command.done_with queue b)
@@ -689,7 +689,7 @@ module _ (Good : ℕ → Type 0) (Done : ℕ → Type 0) (lift : (n : ℕ) → D
       let rest : Down = record b.down { doing = doings.Nothing; tries = 0; queue = more } in
       told-just first.id (command.put_down rest b) may (walked.ends first more b.lanes b.out b.waiting b.flight b.number held)
 
-  done-just : (m : Moment) (b : Bridge) → FirstMay May b.down.queue → J b → J (command.done m b)
+  done-just : (m : Moment) (b : Bridge) → FirstMay May b.down.queue → J b → J (command.command_done m b)
   done-just m b may h = begins-just m (command.done_with b.down.queue b) (done-with-just b.down.queue b may h h)
 
   later-just : (m : Moment) (b : Bridge) → J b → J (command.later m b)
@@ -701,7 +701,7 @@ module _ (Good : ℕ → Type 0) (Done : ℕ → Type 0) (lift : (n : ℕ) → D
   answered-first-just (first ∷ more) code m b may asked h =
       let again : Bridge = command.away m b.down b in
       let none : Bridge = command.refusing whys.Gateway first b.down b in
-      choose-by (code == 0) (command.done m b) (if code == 1 then command.later m b else (if code == 2 then again else none))
+      choose-by (code == 0) (command.command_done m b) (if code == 1 then command.later m b else (if code == 2 then again else none))
       (λ e. done-just m b (may (eqb-true code 0 e)) h)
       (choose (code == 1) (command.later m b) (if code == 2 then again else none) (later-just m b h)
       (choose (code == 2) again none
@@ -710,7 +710,7 @@ module _ (Good : ℕ → Type 0) (Done : ℕ → Type 0) (lift : (n : ℕ) → D
   named-first-just : (queue : List Command) (topic_id code : ℕ) (m : Moment) (b : Bridge) → FirstAsked Asked queue → J b → J (command.named_first queue topic_id code m b)
   named-first-just [] topic_id code m b asked h = h
   named-first-just (first ∷ more) topic_id code m b asked h =
-      let named : Bridge = command.named topic_id first b in
+      let named : Bridge = command.command_named topic_id first b in
       let none : Bridge = command.refusing whys.Gateway first b.down b in
       choose (code == 0) (command.publishing false false topic_id m first named.down named) (if code == 1 then command.later m b else none)
       (publishing-just false false topic_id m first named.down named asked h)
@@ -720,12 +720,12 @@ module _ (Good : ℕ → Type 0) (Done : ℕ → Type 0) (lift : (n : ℕ) → D
   heard-if true m b h = h
   heard-if false m b h = h
 
-  heard-at-just : (doing : Doing) (m : Moment) (b : Bridge) → J b → D (command.heard_at doing m b.down) b
+  heard-at-just : (doing : Doing) (m : Moment) (b : Bridge) → J b → D (command.command_lane_heard_at doing m b.down) b
   heard-at-just doings.Publishing m b h = h
   heard-at-just doings.Registering m b h = h
   heard-at-just doing m b h = heard-if (b.down.tries == 0) m b h
 
-  heard-just : (m : Moment) (b : Bridge) → J b → J (command.heard m b)
+  heard-just : (m : Moment) (b : Bridge) → J b → J (command.command_lane_heard m b)
   heard-just m b h = heard-at-just b.down.doing m b h
 
   acked-at-just : (doing : Doing) (msg_id code : ℕ) (m : Moment) (b : Bridge)
@@ -749,7 +749,7 @@ module _ (Good : ℕ → Type 0) (Done : ℕ → Type 0) (lift : (n : ℕ) → D
   down-connected-just : (m : Moment) (frame : Frame) (b : Bridge) → J b → J (command.connected m frame b)
   down-connected-just m (frames.ConnAck code) b h =
       let up : Bridge = command.put_down (record b.down { phase = phases.Listening; tries = 0; due = m.ping; doing = command.unfinished b.down.doing }) b in
-      choose (code == 0) (command.begins m up) b (begins-just m up h) h
+      choose (code == 0) (command.command_begins m up) b (begins-just m up h) h
   down-connected-just m frame b h = h
 
   down-frame-in-just : (phase : Phase) (m : Moment) (frame : Frame) (b : Bridge) → FrameMay May frame b → J b → J (command.frame_in phase m frame b)
@@ -763,7 +763,7 @@ module _ (Good : ℕ → Type 0) (Done : ℕ → Type 0) (lift : (n : ℕ) → D
   down-again-at-just doing m b h =
       says-down-just (frames.PingReq []) (record b.down { tries = once_more b.down.tries; due = m.retry }) b tt h
 
-  down-again-just : (phase : Phase) (client : List ℕ) (m : Moment) (b : Bridge) → J b → J (command.again phase client m b)
+  down-again-just : (phase : Phase) (client : List ℕ) (m : Moment) (b : Bridge) → J b → J (command.command_again phase client m b)
   down-again-just phases.Listening client m b h = down-again-at-just b.down.doing m b h
   down-again-just phase client m b h =
       says-down-just (frames.Connect (record { bits = 4 }) 1 KEEP_ALIVE client)
@@ -771,13 +771,13 @@ module _ (Good : ℕ → Type 0) (Done : ℕ → Type 0) (lift : (n : ℕ) → D
 
   down-tick-just : (client : List ℕ) (m : Moment) (b : Bridge) → J b → J (command.down_tick client m b)
   down-tick-just client m b h =
-      choose (nat_lt m.at b.down.due) b (if nat_le TRIES b.down.tries then command.gives_up m b else command.again b.down.phase client m b) h
-      (choose (nat_le TRIES b.down.tries) (command.gives_up m b) (command.again b.down.phase client m b)
+      choose (nat_lt m.at b.down.due) b (if nat_le TRIES b.down.tries then command.gives_up m b else command.command_again b.down.phase client m b) h
+      (choose (nat_le TRIES b.down.tries) (command.gives_up m b) (command.command_again b.down.phase client m b)
       (does-just actions.NextCommands (command.away m b.down b) tt tt (away-just m b.down b h)) (down-again-just b.down.phase client m b h))
 
-  line-just : (doing : Doing) (line : ℕ) (m : Moment) (b : Bridge) → (doing ≡ doings.Refusing line → FirstMay May b.down.queue) → J b → J (command.kept_at doing line m b)
+  line-just : (doing : Doing) (line : ℕ) (m : Moment) (b : Bridge) → (doing ≡ doings.Refusing line → FirstMay May b.down.queue) → J b → J (command.line_kept doing line m b)
   line-just (doings.Refusing own) line m b may h =
-      choose-by (own == line) (command.done m b) b (λ e. done-just m b (may (ap doings.Refusing (eqb-true own line e))) h) h
+      choose-by (own == line) (command.command_done m b) b (λ e. done-just m b (may (ap doings.Refusing (eqb-true own line e))) h) h
   line-just doing line m b may h = h
 
   -- ---- the whole
@@ -821,14 +821,14 @@ module _ (Good : ℕ → Type 0) (Done : ℕ → Type 0) (lift : (n : ℕ) → D
   subscribe-at-just : (entry : Option DownFilter) (settings : Settings) (next : ℕ) (m : Moment) (b : Bridge) → J b → J (whole.subscribing_at entry settings next m b)
   subscribe-at-just None settings next m b h = up-just settings m (record b { is_subscribed = true }) h
   subscribe-at-just (Some entry) settings next m b h =
-      let id : ℕ = free_id b.packet_id b.flight in
+      let id : ℕ = free_packet_id b.packet_id b.flight in
       does-just (actions.ToBroker (packets.Subscribe id entry.filter levels.One))
       (record b { side = sides.Subscribing next; due = m.retry; packet_id = next_id id }) tt tt (h)
 
   subscribe-just : (settings : Settings) (next : ℕ) (m : Moment) (b : Bridge) → J b → J (whole.subscribing settings next m b)
   subscribe-just settings next m b h = subscribe-at-just (slice_get settings.downs next) settings next m b h
 
-  rests-just : (settings : Settings) (b : Bridge) → J b → J (whole.rests settings b)
+  rests-just : (settings : Settings) (b : Bridge) → J b → J (whole.lanes_rest settings b)
   rests-just settings b h =
       choose (whole.may_listen b) b (whole.each_lane settings (λ place. lane.falls_asleep place) b) h
       (each-lane-just settings (λ place. lane.falls_asleep place) b (λ place own x b p h. asleep-in-just x.phase place x b p h) h)
@@ -838,11 +838,11 @@ module _ (Good : ℕ → Type 0) (Done : ℕ → Type 0) (lift : (n : ℕ) → D
       choose (whole.may_wake settings b) (whole.each_lane settings (λ place. lane.wakes place m) b) b
       (each-lane-just settings (λ place. lane.wakes place m) b (λ place own x b p h. wakes-in-just x.phase own place m x b h) h) h
 
-  lost-just : (settings : Settings) (due : ℕ) (b : Bridge) → J b → J (whole.lost settings due b)
-  lost-just settings due b h = rests-just settings (whole.ended due b) (walked.clears b.lanes b.out b.waiting b.flight b.number b.down.queue h)
+  lost-just : (settings : Settings) (due : ℕ) (b : Bridge) → J b → J (whole.connection_lost settings due b)
+  lost-just settings due b h = rests-just settings (whole.connection_ended due b) (walked.clears b.lanes b.out b.waiting b.flight b.number b.down.queue h)
 
   hangs-up-just : (settings : Settings) (due : ℕ) (b : Bridge) → J b → J (whole.hangs_up settings due b)
-  hangs-up-just settings due b h = does-just actions.HangUp (whole.lost settings due b) tt tt (lost-just settings due b h)
+  hangs-up-just settings due b h = does-just actions.HangUp (whole.connection_lost settings due b) tt tt (lost-just settings due b h)
 
   welcomed-at-just : (session : Bool) (settings : Settings) (m : Moment) (b : Bridge) → J b → J (whole.welcomed_at session settings m b)
   welcomed-at-just true settings m b h = up-just settings m b h
@@ -851,7 +851,7 @@ module _ (Good : ℕ → Type 0) (Done : ℕ → Type 0) (lift : (n : ℕ) → D
   forgets-just : (settings : Settings) (number : ℕ) (b : Bridge) → Done number → J b → J (whole.forgets settings number b)
   forgets-just settings number b handed h = choose settings.spools (does (actions.Forget number) b) b (does-just (actions.Forget number) b tt handed h) h
 
-  answered-just : (item : Option Item) (settings : Settings) (id : ℕ) (b : Bridge) → ItemDone Done item → ItemDone Done (acknowledged id b.flight) → J b → J (whole.answered item settings id b)
+  answered-just : (item : Option Item) (settings : Settings) (id : ℕ) (b : Bridge) → ItemDone Done item → ItemDone Done (item_in_flight id b.flight) → J b → J (whole.item_acked item settings id b)
   answered-just None settings id b handed taken h = walked.left id b.lanes b.out b.waiting b.flight b.number b.down.queue taken h
   answered-just (Some item) settings id b handed taken h =
       let rest : Bridge = record b { flight = left_in_flight id b.flight } in
@@ -865,9 +865,9 @@ module _ (Good : ℕ → Type 0) (Done : ℕ → Type 0) (lift : (n : ℕ) → D
       sends-at-just answered.side settings answered told
 
   up-packet-just : (settings : Settings) (m : Moment) (packet : Packet) (b : Bridge) → PacketDone Done May Asked settings packet b → J b → J (whole.up_packet settings m packet b)
-  up-packet-just settings m (packets.PubAck id) b good h = answered-just (acknowledged id b.flight) settings id b good good h
+  up-packet-just settings m (packets.PubAck id) b good h = answered-just (item_in_flight id b.flight) settings id b good good h
   up-packet-just settings m (packets.Publish delivery retain topic body) b good h =
-      begins-just m (command.commanded settings.downs (whole.id_in delivery) retain topic body b) (commanded-just settings.downs (whole.id_in delivery) retain topic body b good.0 good.1 h)
+      begins-just m (command.commanded settings.downs (whole.delivery_id delivery) retain topic body b) (commanded-just settings.downs (whole.delivery_id delivery) retain topic body b good.0 good.1 h)
   up-packet-just settings m packet b good h = h
 
   named-just : (granted : Bool) (settings : Settings) (next : ℕ) (m : Moment) (b : Bridge) → J b → J (whole.named_at granted settings next m b)
@@ -900,7 +900,7 @@ module _ (Good : ℕ → Type 0) (Done : ℕ → Type 0) (lift : (n : ℕ) → D
   packet-in-just sides.Connecting settings m packet b good h = new-packet-just settings m packet b h
   packet-in-just (sides.Subscribing next) settings m packet b good h = naming-packet-just settings next m packet b good h
   packet-in-just sides.Up settings m packet b good h =
-      up-packet-just settings m packet (whole.heard m b)
+      up-packet-just settings m packet (whole.broker_heard m b)
       (heard-packet settings (b.tries == 0) packet b (record b { tries = 0; due = m.ping }) good (same-packet settings packet b m good))
       (choose (b.tries == 0) b (record b { tries = 0; due = m.ping }) h (h))
 
@@ -930,9 +930,9 @@ module _ (Good : ℕ → Type 0) (Done : ℕ → Type 0) (lift : (n : ℕ) → D
       choose-by (nat_le b.number number) (record b { number = number }) b
       (λ e. walked.counts number b.lanes b.out b.waiting b.flight b.number b.down.queue (leb-true b.number number e) h) h
 
-  found-just : (settings : Settings) (item : Item) (b : Bridge) → Came item → J b → J (whole.found settings item b)
+  found-just : (settings : Settings) (item : Item) (b : Bridge) → Came item → J b → J (whole.reading_found settings item b)
   found-just settings item b came h =
-      choose-by (whole.is_next item b) (takes settings item (one-taken item b)) b
+      choose-by (whole.comes_in_order item b) (takes settings item (one-taken item b)) b
       (λ e. walked.taken settings item b (leb-true b.number item.number (and_parts (nat_le b.number item.number) (nat_lt item.number LAST_NUMBER) e).0) came h) h
 
   stored-all-just : (settings : Settings) (below : ℕ) (b : Bridge) → AreGood Good settings below b → J b → J (whole.stored settings below b)

@@ -74,16 +74,17 @@ queued id from topic body bridge =
     }) bridge
 
 -- the broker is told that a publication was taken, if it wants to be
-abbrev pub told : ℕ → Bridge → Bridge
-told id bridge = if id == 0 then bridge else does (actions.ToBroker (packets.PubAck id)) bridge
+abbrev pub broker_told : ℕ → Bridge → Bridge
+broker_told id bridge =
+    if id == 0 then bridge else does (actions.ToBroker (packets.PubAck id)) bridge
 
 -- a publication of the broker waits for its turn. A message that the broker kept is acknowledged at
 -- once, unless the filter hands such messages on.
-abbrev pub asked : Option DownFilter → ℕ → Bool → List ℕ → List ℕ → Bridge → Bridge
-asked None id retain topic body bridge = queued id topic [] body bridge
-asked (Some entry) id retain topic body bridge =
+abbrev pub command_asked : Option DownFilter → ℕ → Bool → List ℕ → List ℕ → Bridge → Bridge
+command_asked None id retain topic body bridge = queued id topic [] body bridge
+command_asked (Some entry) id retain topic body bridge =
     if retain && not entry.retained
-    then told id bridge
+    then broker_told id bridge
     else queued id topic (stripped entry.strip topic) body bridge
 
 -- whether a packet id waits already; id 0 is none
@@ -94,8 +95,8 @@ abbrev pub is_queued : ℕ → List Command → Bool
 is_queued id queue = if id == 0 then false else is_waiting id queue
 
 -- whether there is no room for a command, or there was none for one before it
-abbrev pub is_full : Down → Bool
-is_full down = down.is_behind || nat_le MAX_COMMANDS (length down.queue)
+abbrev pub is_queue_full : Down → Bool
+is_queue_full down = down.is_behind || nat_le MAX_COMMANDS (length down.queue)
 
 -- a command for which there is no room is passed over: if the broker waits for its acknowledgement,
 -- it sends it again in its next connection
@@ -108,8 +109,8 @@ passed_over id bridge =
 abbrev pub commanded : List DownFilter → ℕ → Bool → List ℕ → List ℕ → Bridge → Bridge
 commanded downs id retain topic body bridge =
     if is_queued id bridge.down.queue then bridge
-    else (if is_full bridge.down then passed_over id bridge
-    else asked (filter_for topic downs) id retain topic body bridge)
+    else (if is_queue_full bridge.down then passed_over id bridge
+    else command_asked (filter_for topic downs) id retain topic body bridge)
 
 -- the topic id of a topic
 abbrev pub id_of : List ℕ → List NamedTopic → Option ℕ
@@ -118,11 +119,9 @@ id_of topic (entry ∷ more) =
     if bytes_eq entry.topic topic then Some entry.id else id_of topic more
 
 -- a name of two octets is its own id
-abbrev pub short_name : List ℕ → Option ℕ
-short_name [] = None
-short_name (high ∷ []) = None
-short_name (high ∷ low ∷ []) = Some (high * 256 + low)
-short_name (high ∷ low ∷ next ∷ more) = None
+abbrev pub short_name_id : List ℕ → Option ℕ
+short_name_id (high ∷ low ∷ []) = Some (high * 256 + low)
+short_name_id name = None
 
 -- PUBLISH at quality of service 1: DUP if it was sent before, and 2 for a short name
 abbrev pub publish_flags : Bool → Bool → Flags
@@ -150,8 +149,8 @@ away m down bridge =
     put_down (record down { phase = phases.Away; tries = 0; due = m.at }) bridge
 
 -- the name is registered first; a session that has no id left begins anew
-abbrev pub registering : Moment → Command → Down → Bridge → Bridge
-registering m command down bridge =
+abbrev pub command_registering : Moment → Command → Down → Bridge → Bridge
+command_registering m command down bridge =
     if nat_lt (length down.ids) MAX_NAMES
     then says_down (frames.Register 0 (next_id down.msg_id) command.topic)
     (record down {
@@ -164,7 +163,7 @@ registering m command down bridge =
 
 -- a command goes out under its id, or its name is registered first
 abbrev pub sent_under : Option ℕ → Bool → Moment → Command → Down → Bridge → Bridge
-sent_under None dup m command down bridge = registering m command down bridge
+sent_under None dup m command down bridge = command_registering m command down bridge
 sent_under (Some id) dup m command down bridge = publishing dup false id m command down bridge
 
 abbrev pub sent_as : Option ℕ → Bool → Moment → Command → Down → Bridge → Bridge
@@ -187,34 +186,35 @@ refusing why command down bridge =
 -- connected
 abbrev pub sent_in : Phase → Bool → Moment → Command → Down → Bridge → Bridge
 sent_in phases.Listening dup m command down bridge =
-    sent_as (short_name command.topic) dup m command down bridge
+    sent_as (short_name_id command.topic) dup m command down bridge
 sent_in phase dup m command down bridge = put_down down bridge
 
 abbrev pub begun_by : Option Why → Bool → Moment → Command → Down → Bridge → Bridge
 begun_by (Some why) dup m command down bridge = refusing why command down bridge
 begun_by None dup m command down bridge = sent_in down.phase dup m command down bridge
 
-abbrev pub begun : List Command → Bool → Moment → Down → Bridge → Bridge
-begun [] dup m down bridge = put_down down bridge
-begun (command ∷ more) dup m down bridge = begun_by (obstacle command) dup m command down bridge
+abbrev pub command_begun : List Command → Bool → Moment → Down → Bridge → Bridge
+command_begun [] dup m down bridge = put_down down bridge
+command_begun (command ∷ more) dup m down bridge =
+    begun_by (obstacle command) dup m command down bridge
 
 -- the first command is begun, if none is
 abbrev pub begun_at : Doing → Moment → Bridge → Bridge
-begun_at doings.Nothing m bridge = begun bridge.down.queue false m bridge.down bridge
+begun_at doings.Nothing m bridge = command_begun bridge.down.queue false m bridge.down bridge
 begun_at doing m bridge = bridge
 
-abbrev pub begins : Moment → Bridge → Bridge
-begins m bridge = begun_at bridge.down.doing m bridge
+abbrev pub command_begins : Moment → Bridge → Bridge
+command_begins m bridge = begun_at bridge.down.doing m bridge
 
 -- the first command is done: the broker is told, and the next one is begun
 abbrev pub done_with : List Command → Bridge → Bridge
 done_with [] bridge = put_down (record bridge.down { doing = doings.Nothing; tries = 0 }) bridge
 done_with (command ∷ more) bridge =
-    told command.id
+    broker_told command.id
     (put_down (record bridge.down { doing = doings.Nothing; tries = 0; queue = more }) bridge)
 
-abbrev pub done : Moment → Bridge → Bridge
-done m bridge = begins m (done_with bridge.down.queue bridge)
+abbrev pub command_done : Moment → Bridge → Bridge
+command_done m bridge = command_begins m (done_with bridge.down.queue bridge)
 
 -- congestion: it is sent again later
 abbrev pub later : Moment → Bridge → Bridge
@@ -225,14 +225,14 @@ later m bridge = put_down (record bridge.down { due = m.retry; tries = 0 }) brid
 abbrev pub answered_first : List Command → ℕ → Moment → Bridge → Bridge
 answered_first [] code m bridge = bridge
 answered_first (command ∷ more) code m bridge =
-    if code == 0 then done m bridge
+    if code == 0 then command_done m bridge
     else (if code == 1 then later m bridge
     else (if code == 2 then away m bridge.down bridge
     else refusing whys.Gateway command bridge.down bridge))
 
 -- the topic id of a command's name is known
-abbrev pub named : ℕ → Command → Bridge → Bridge
-named id command bridge =
+abbrev pub command_named : ℕ → Command → Bridge → Bridge
+command_named id command bridge =
     put_down (record bridge.down {
       tries = 0;
       ids = bridge.down.ids ++ record { id = id; topic = command.topic } ∷ [];
@@ -243,31 +243,33 @@ abbrev pub named_first : List Command → ℕ → ℕ → Moment → Bridge → 
 named_first [] topic_id code m bridge = bridge
 named_first (command ∷ more) topic_id code m bridge =
     if code == 0
-    then publishing false false topic_id m command (named topic_id command bridge).down
-    (named topic_id command bridge)
+    then publishing false false topic_id m command (command_named topic_id command bridge).down
+    (command_named topic_id command bridge)
     else (if code == 1 then later m bridge
     else refusing whys.Gateway command bridge.down bridge)
 
 -- what comes while nothing is awaited shows that the gateway is there
-abbrev pub heard_at : Doing → Moment → Down → Down
-heard_at doings.Publishing m down = down
-heard_at doings.Registering m down = down
-heard_at doing m down = if down.tries == 0 then down else record down { tries = 0; due = m.ping }
+abbrev pub command_lane_heard_at : Doing → Moment → Down → Down
+command_lane_heard_at doings.Publishing m down = down
+command_lane_heard_at doings.Registering m down = down
+command_lane_heard_at doing m down =
+    if down.tries == 0 then down else record down { tries = 0; due = m.ping }
 
-abbrev pub heard : Moment → Bridge → Bridge
-heard m bridge = put_down (heard_at bridge.down.doing m bridge.down) bridge
+abbrev pub command_lane_heard : Moment → Bridge → Bridge
+command_lane_heard m bridge =
+    put_down (command_lane_heard_at bridge.down.doing m bridge.down) bridge
 
 -- PUBACK and REGACK are answers to what was sent last, if that was a PUBLISH and a REGISTER
 abbrev pub acked_at : Doing → ℕ → ℕ → Moment → Bridge → Bridge
 acked_at doings.Publishing msg_id code m bridge =
     if msg_id == bridge.down.msg_id then answered_first bridge.down.queue code m bridge else bridge
-acked_at doing msg_id code m bridge = heard m bridge
+acked_at doing msg_id code m bridge = command_lane_heard m bridge
 
 abbrev pub named_at : Doing → ℕ → ℕ → ℕ → Moment → Bridge → Bridge
 named_at doings.Registering topic_id msg_id code m bridge =
     if msg_id == bridge.down.msg_id then named_first bridge.down.queue topic_id code m bridge
     else bridge
-named_at doing topic_id msg_id code m bridge = heard m bridge
+named_at doing topic_id msg_id code m bridge = command_lane_heard m bridge
 
 -- a frame of the gateway while the lane is connected
 abbrev pub listening_frame : Moment → Frame → Bridge → Bridge
@@ -276,7 +278,7 @@ listening_frame m (frames.PubAck topic_id msg_id code) bridge =
 listening_frame m (frames.RegAck topic_id msg_id code) bridge =
     named_at bridge.down.doing topic_id msg_id code m bridge
 listening_frame m (frames.Disconnect duration) bridge = away m bridge.down bridge
-listening_frame m frame bridge = heard m bridge
+listening_frame m frame bridge = command_lane_heard m bridge
 
 -- a command that the last connection did not bring to its end begins again; a line that is being
 -- written stays so
@@ -288,7 +290,7 @@ unfinished doing = doings.Nothing
 abbrev pub connected : Moment → Frame → Bridge → Bridge
 connected m (frames.ConnAck code) bridge =
     if code == 0
-    then begins m (put_down (record bridge.down {
+    then command_begins m (put_down (record bridge.down {
       phase = phases.Listening;
       tries = 0;
       due = m.ping;
@@ -307,15 +309,15 @@ down_frame m frame bridge = frame_in bridge.down.phase m frame bridge
 
 -- what is due is sent again
 abbrev pub again_at : Doing → Moment → Bridge → Bridge
-again_at doings.Publishing m bridge = begun bridge.down.queue true m bridge.down bridge
-again_at doings.Registering m bridge = begun bridge.down.queue false m bridge.down bridge
+again_at doings.Publishing m bridge = command_begun bridge.down.queue true m bridge.down bridge
+again_at doings.Registering m bridge = command_begun bridge.down.queue false m bridge.down bridge
 again_at doing m bridge =
     says_down (frames.PingReq [])
     (record bridge.down { tries = once_more bridge.down.tries; due = m.retry }) bridge
 
-abbrev pub again : Phase → List ℕ → Moment → Bridge → Bridge
-again phases.Listening client m bridge = again_at bridge.down.doing m bridge
-again phase client m bridge = connecting client m bridge.down bridge
+abbrev pub command_again : Phase → List ℕ → Moment → Bridge → Bridge
+command_again phases.Listening client m bridge = again_at bridge.down.doing m bridge
+command_again phase client m bridge = connecting client m bridge.down bridge
 
 -- the gateway does not answer: the next one is tried
 abbrev pub gives_up : Moment → Bridge → Bridge
@@ -326,12 +328,13 @@ abbrev pub down_tick : List ℕ → Moment → Bridge → Bridge
 down_tick client m bridge =
     if nat_lt m.at bridge.down.due then bridge
     else (if nat_le TRIES bridge.down.tries then gives_up m bridge
-    else again bridge.down.phase client m bridge)
+    else command_again bridge.down.phase client m bridge)
 
 -- a line is kept: it counts if it is that of the first command
-abbrev pub kept_at : Doing → ℕ → Moment → Bridge → Bridge
-kept_at (doings.Refusing own) line m bridge = if own == line then done m bridge else bridge
-kept_at doing line m bridge = bridge
+abbrev pub line_kept : Doing → ℕ → Moment → Bridge → Bridge
+line_kept (doings.Refusing own) line m bridge =
+    if own == line then command_done m bridge else bridge
+line_kept doing line m bridge = bridge
 
 abbrev pub kept : ℕ → Moment → Bridge → Bridge
-kept line m bridge = kept_at bridge.down.doing line m bridge
+kept line m bridge = line_kept bridge.down.doing line m bridge

@@ -25,7 +25,7 @@ use Rattle.br_core.specs.declared.state.Open.{Open}
 use Rattle.br_core.specs.declared.state.Phase.{Phase}
 use Rattle.br_core.specs.declared.state.Phase.TheVariants as phases
 use Rattle.br_core.specs.declared.state.TheConstants.{KEEP_ALIVE, LAST_NUMBER, MAX_BODY, MAX_IDS, SLEEP, TRIES}
-use Rattle.br_core.specs.Sides.{does, is_up, next_id, once_more, takes}
+use Rattle.br_core.specs.Sides.{does, is_broker_up, next_id, once_more, takes}
 
 -- a lane in its place
 abbrev pub seated : ℕ → Lane → Bridge → Bridge
@@ -49,13 +49,13 @@ connecting own place m lane bridge =
     }) bridge
 
 -- the flags of a SUBSCRIBE: 0x20 for quality of service 1, and 2 for a short name
-abbrev pub qos_bits : Qos → ℕ
-qos_bits levels.Zero = 0
-qos_bits levels.One = 0x20
+abbrev pub subscribe_bits : Qos → ℕ
+subscribe_bits levels.Zero = 0
+subscribe_bits levels.One = 0x20
 
 abbrev pub subscribe_flags : UpName → Flags
 subscribe_flags up =
-    record { bits = qos_bits up.qos + (if length up.name == 2 then 2 else 0) }
+    record { bits = subscribe_bits up.qos + (if length up.name == 2 then 2 else 0) }
 
 -- the name of this number is subscribed to; after the last one the lane listens
 abbrev pub subscribing_at : Option UpName → ℕ → ℕ → Moment → Lane → Bridge → Bridge
@@ -80,23 +80,23 @@ name_at id [] = None
 name_at id (entry ∷ more) = if entry.id == id then Some entry.name else name_at id more
 
 -- where a name is among those of the lane, counted from a place
-abbrev pub place_from : ℕ → List ℕ → List UpName → Option ℕ
-place_from at name [] = None
-place_from at name (up ∷ more) =
-    if bytes_eq up.name name then Some at else place_from (at + 1) name more
+abbrev pub name_place_from : ℕ → List ℕ → List UpName → Option ℕ
+name_place_from at name [] = None
+name_place_from at name (up ∷ more) =
+    if bytes_eq up.name name then Some at else name_place_from (at + 1) name more
 
-abbrev pub place_of : List ℕ → List UpName → Option ℕ
-place_of name names = place_from 0 name names
+abbrev pub name_place : List ℕ → List UpName → Option ℕ
+name_place name names = name_place_from 0 name names
 
 -- the two octets of a short name
 abbrev pub short_octets : ℕ → List ℕ
 short_octets topic = topic / 256 ∷ topic % 256 ∷ []
 
 -- which of the names a topic field of PUBLISH means
-abbrev pub name_of : TopicIdType → ℕ → List UpName → List Named → Option ℕ
-name_of kinds.Normal topic names ids = name_at topic ids
-name_of kinds.Short topic names ids = place_of (short_octets topic) names
-name_of kind topic names ids = None
+abbrev pub name_meant : TopicIdType → ℕ → List UpName → List Named → Option ℕ
+name_meant kinds.Normal topic names ids = name_at topic ids
+name_meant kinds.Short topic names ids = name_place (short_octets topic) names
+name_meant kind topic names ids = None
 
 -- a reading of a lane, at the quality of service that the gateway gave it: the lane has asked for
 -- no greater one than the settings allow
@@ -112,18 +112,18 @@ item_of number lane qos up body =
     }
 
 -- whether the spool can keep these octets, if there is one: no gateway has more
-abbrev pub fits : Settings → List ℕ → Bool
-fits settings body = not settings.spools || nat_le (length body) MAX_BODY
+abbrev pub body_fits : Settings → List ℕ → Bool
+body_fits settings body = not settings.spools || nat_le (length body) MAX_BODY
 
 -- whether one more reading is taken, which has these octets
-abbrev pub has_room : Settings → List ℕ → Bridge → Bool
-has_room settings body bridge =
-    fits settings body && nat_lt (length bridge.waiting) settings.room
+abbrev pub reading_has_room : Settings → List ℕ → Bridge → Bool
+reading_has_room settings body bridge =
+    body_fits settings body && nat_lt (length bridge.waiting) settings.room
     && nat_lt bridge.number LAST_NUMBER
 
 -- a reading of this quality of service gets the next number
-abbrev pub counted : Settings → ℕ → Qos → UpName → List ℕ → Bridge → Bridge
-counted settings place qos up body bridge =
+abbrev pub reading_counted : Settings → ℕ → Qos → UpName → List ℕ → Bridge → Bridge
+reading_counted settings place qos up body bridge =
     takes settings (item_of bridge.number place qos up body)
     (record bridge { number = bridge.number + 1 })
 
@@ -164,9 +164,9 @@ falls_asleep place own lane bridge = asleep_in lane.phase place lane bridge
 -- is as if it had not come, and the lane falls asleep
 abbrev pub brings : Settings → ℕ → ℕ → UpName → ℕ → ℕ → List ℕ → Lane → Bridge → Bridge
 brings settings place name up topic_id msg_id body lane bridge =
-    if has_room settings body bridge
+    if reading_has_room settings body bridge
     then stored settings (item_of bridge.number place levels.One up body)
-    (counted settings place levels.One up body
+    (reading_counted settings place levels.One up body
     (seated place (record lane { last = Some (open_of bridge.number name topic_id msg_id body) })
     bridge))
     else asleep_in lane.phase place lane bridge
@@ -190,13 +190,14 @@ brings_if (Some held) settings place name up topic_id msg_id body lane bridge =
 
 -- a reading of quality of service 0 goes on, if the broker is there and there is room; else it
 -- takes no number
-abbrev pub goes_on : Settings → List ℕ → Bridge → Bool
-goes_on settings body bridge = is_up bridge.side && has_room settings body bridge
+abbrev pub reading_goes_on : Settings → List ℕ → Bridge → Bool
+reading_goes_on settings body bridge =
+    is_broker_up bridge.side && reading_has_room settings body bridge
 
 abbrev pub passes : Settings → ℕ → UpName → List ℕ → Lane → Bridge → Bridge
 passes settings place up body lane bridge =
-    if goes_on settings body bridge
-    then counted settings place levels.Zero up body (seated place lane bridge)
+    if reading_goes_on settings body bridge
+    then reading_counted settings place levels.Zero up body (seated place lane bridge)
     else seated place lane bridge
 
 -- a PUBLISH under a name of the lane, by its quality of service: 2 was never asked for
@@ -216,14 +217,14 @@ abbrev pub refusal_at : Phase → ℕ
 refusal_at (phases.Subscribing next) = 1
 refusal_at phase = 2
 
-abbrev pub refusal : TopicIdType → Phase → ℕ
-refusal kinds.Normal phase = 2
-refusal kind phase = refusal_at phase
+abbrev pub refusal_code : TopicIdType → Phase → ℕ
+refusal_code kinds.Normal phase = 2
+refusal_code kind phase = refusal_at phase
 
 -- a message under such a topic is refused
 abbrev pub unknown_at : FieldQos → TopicIdType → ℕ → ℕ → ℕ → Lane → Bridge → Bridge
 unknown_at field_levels.One kind place topic_id msg_id lane bridge =
-    says place (frames.PubAck topic_id msg_id (refusal kind lane.phase)) lane bridge
+    says place (frames.PubAck topic_id msg_id (refusal_code kind lane.phase)) lane bridge
 unknown_at qos kind place topic_id msg_id lane bridge = seated place lane bridge
 
 abbrev pub named_at : Option UpName → FieldQos → TopicIdType → Settings → ℕ → ℕ → ℕ → ℕ → List ℕ
@@ -233,18 +234,18 @@ named_at None qos kind settings place name topic_id msg_id body lane bridge =
 named_at (Some up) qos kind settings place name topic_id msg_id body lane bridge =
     publication_at qos settings place name up topic_id msg_id body lane bridge
 
-abbrev pub known_at : Option ℕ → FieldQos → TopicIdType → Settings → LaneSettings → ℕ → ℕ → ℕ
+abbrev pub topic_known_at : Option ℕ → FieldQos → TopicIdType → Settings → LaneSettings → ℕ → ℕ → ℕ
     → List ℕ → Lane → Bridge → Bridge
-known_at None qos kind settings own place topic_id msg_id body lane bridge =
+topic_known_at None qos kind settings own place topic_id msg_id body lane bridge =
     unknown_at qos kind place topic_id msg_id lane bridge
-known_at (Some name) qos kind settings own place topic_id msg_id body lane bridge =
+topic_known_at (Some name) qos kind settings own place topic_id msg_id body lane bridge =
     named_at (slice_get own.names name) qos kind settings place name topic_id msg_id body lane
     bridge
 
-abbrev pub publication : Settings → LaneSettings → ℕ → Flags → ℕ → ℕ → List ℕ → Lane → Bridge
+abbrev pub lane_publication : Settings → LaneSettings → ℕ → Flags → ℕ → ℕ → List ℕ → Lane → Bridge
     → Bridge
-publication settings own place flags topic_id msg_id body lane bridge =
-    known_at (name_of (kind_of flags.bits) topic_id own.names lane.ids) (qos_of flags.bits)
+lane_publication settings own place flags topic_id msg_id body lane bridge =
+    topic_known_at (name_meant (kind_of flags.bits) topic_id own.names lane.ids) (qos_of flags.bits)
     (kind_of flags.bits) settings own place topic_id msg_id body lane bridge
 
 -- the connection is over, and another one is due
@@ -254,10 +255,10 @@ goes_away place m lane bridge =
 
 -- REGISTER of one of the names gives its topic id; another name is none of the lane's; a lane that
 -- has as many ids as it holds connects anew
-abbrev pub registered : Option ℕ → ℕ → Moment → ℕ → ℕ → Lane → Bridge → Bridge
-registered None place m topic_id msg_id lane bridge =
+abbrev pub name_registered : Option ℕ → ℕ → Moment → ℕ → ℕ → Lane → Bridge → Bridge
+name_registered None place m topic_id msg_id lane bridge =
     says place (frames.RegAck topic_id msg_id 3) lane bridge
-registered (Some name) place m topic_id msg_id lane bridge =
+name_registered (Some name) place m topic_id msg_id lane bridge =
     if nat_lt (length lane.ids) MAX_IDS
     then says place (frames.RegAck topic_id msg_id 0)
     (record lane { ids = record { id = topic_id; name = name } ∷ lane.ids }) bridge
@@ -266,9 +267,9 @@ registered (Some name) place m topic_id msg_id lane bridge =
 -- a frame that comes while the lane is connected
 abbrev pub awake_frame : Settings → LaneSettings → ℕ → Moment → Frame → Lane → Bridge → Bridge
 awake_frame settings own place m (frames.Publish flags topic msg_id body) lane bridge =
-    publication settings own place flags topic msg_id body lane bridge
+    lane_publication settings own place flags topic msg_id body lane bridge
 awake_frame settings own place m (frames.Register topic_id msg_id name) lane bridge =
-    registered (place_of name own.names) place m topic_id msg_id lane bridge
+    name_registered (name_place name own.names) place m topic_id msg_id lane bridge
 awake_frame settings own place m (frames.Disconnect duration) lane bridge =
     goes_away place m lane bridge
 awake_frame settings own place m frame lane bridge = seated place lane bridge
@@ -284,8 +285,8 @@ abbrev pub with_id : ℕ → ℕ → List Named → List Named
 with_id topic_id next ids =
     if topic_id == 0 then ids else record { id = topic_id; name = next } ∷ ids
 
-abbrev pub subscribed : LaneSettings → ℕ → ℕ → Moment → ℕ → ℕ → Lane → Bridge → Bridge
-subscribed own place next m topic_id code lane bridge =
+abbrev pub lane_subscribed : LaneSettings → ℕ → ℕ → Moment → ℕ → ℕ → Lane → Bridge → Bridge
+lane_subscribed own place next m topic_id code lane bridge =
     if code == 0
     then subscribing own place (next + 1) m
     (record lane { tries = 0; ids = with_id topic_id next lane.ids }) bridge
@@ -298,15 +299,15 @@ is_its next msg_id lane = (next_id msg_id == lane.msg_id) && nat_lt next LAST_NU
 abbrev pub naming_frame : Settings → LaneSettings → ℕ → ℕ → Moment → Frame → Lane → Bridge → Bridge
 naming_frame settings own place next m (frames.SubAck flags topic_id msg_id code) lane bridge =
     if is_its next msg_id lane
-    then subscribed own place next m topic_id code lane bridge
+    then lane_subscribed own place next m topic_id code lane bridge
     else bridge
 naming_frame settings own place next m frame lane bridge =
     awake_frame settings own place m frame lane bridge
 
 -- what comes shows that the gateway is there: the next sign of life is due later, if one was asked
 -- for; else as it was, since the gateway counts what it hears, not what it says
-abbrev pub heard : Moment → Lane → Lane
-heard m lane = if lane.tries == 0 then lane else record lane { tries = 0; due = m.ping }
+abbrev pub lane_heard : Moment → Lane → Lane
+lane_heard m lane = if lane.tries == 0 then lane else record lane { tries = 0; due = m.ping }
 
 -- a frame of the gateway, by the phase
 abbrev pub frame_in : Phase → Settings → LaneSettings → ℕ → Moment → Frame → Lane → Bridge → Bridge
@@ -316,7 +317,7 @@ frame_in phases.Connecting settings own place m frame lane bridge =
 frame_in (phases.Subscribing next) settings own place m frame lane bridge =
     naming_frame settings own place next m frame lane bridge
 frame_in phases.Listening settings own place m frame lane bridge =
-    awake_frame settings own place m frame (heard m lane) bridge
+    awake_frame settings own place m frame (lane_heard m lane) bridge
 frame_in phases.Asleep settings own place m frame lane bridge = bridge
 
 abbrev pub lane_frame : Settings → ℕ → Moment → Frame → LaneSettings → Lane → Bridge → Bridge
@@ -330,12 +331,13 @@ pings place m lane client bridge =
     (record lane { tries = once_more lane.tries; due = m.retry }) bridge
 
 -- what is due is sent again
-abbrev pub again : Phase → LaneSettings → ℕ → Moment → Lane → Bridge → Bridge
-again phases.Away own place m lane bridge = connecting own place m lane bridge
-again phases.Connecting own place m lane bridge = connecting own place m lane bridge
-again (phases.Subscribing next) own place m lane bridge = subscribing own place next m lane bridge
-again phases.Listening own place m lane bridge = pings place m lane [] bridge
-again phases.Asleep own place m lane bridge = bridge
+abbrev pub lane_again : Phase → LaneSettings → ℕ → Moment → Lane → Bridge → Bridge
+lane_again phases.Away own place m lane bridge = connecting own place m lane bridge
+lane_again phases.Connecting own place m lane bridge = connecting own place m lane bridge
+lane_again (phases.Subscribing next) own place m lane bridge =
+    subscribing own place next m lane bridge
+lane_again phases.Listening own place m lane bridge = pings place m lane [] bridge
+lane_again phases.Asleep own place m lane bridge = bridge
 
 -- the gateway does not answer: the next one is tried at once
 abbrev pub gives_up : ℕ → Moment → Lane → Bridge → Bridge
@@ -346,7 +348,7 @@ abbrev pub lane_tick : ℕ → Moment → LaneSettings → Lane → Bridge → B
 lane_tick place m own lane bridge =
     if nat_lt m.at lane.due then bridge
     else (if nat_le TRIES lane.tries then gives_up place m lane bridge
-    else again lane.phase own place m lane bridge)
+    else lane_again lane.phase own place m lane bridge)
 
 -- a lane that sleeps wakes: it connects
 abbrev pub wakes_in : Phase → LaneSettings → ℕ → Moment → Lane → Bridge → Bridge
@@ -357,10 +359,10 @@ abbrev pub wakes : ℕ → Moment → LaneSettings → Lane → Bridge → Bridg
 wakes place m own lane bridge = wakes_in lane.phase own place m lane bridge
 
 -- whether the gateway takes an acknowledgement now
-abbrev pub is_awake : Phase → Bool
-is_awake (phases.Subscribing next) = true
-is_awake phases.Listening = true
-is_awake phase = false
+abbrev pub is_lane_awake : Phase → Bool
+is_lane_awake (phases.Subscribing next) = true
+is_lane_awake phases.Listening = true
+is_lane_awake phase = false
 
 -- the broker has acknowledged a reading: if it is the lane's open one, so may the lane
 abbrev pub answered_at : Bool → ℕ → Open → Lane → Bridge → Bridge
@@ -374,7 +376,7 @@ abbrev pub answers_open : Option Open → ℕ → ℕ → Lane → Bridge → Br
 answers_open None number place lane bridge = bridge
 answers_open (Some held) number place lane bridge =
     if (held.number == number) && not held.is_answered
-    then answered_at (is_awake lane.phase) place held lane bridge else bridge
+    then answered_at (is_lane_awake lane.phase) place held lane bridge else bridge
 
 abbrev pub answers : ℕ → ℕ → LaneSettings → Lane → Bridge → Bridge
 answers number place own lane bridge = answers_open lane.last number place lane bridge
@@ -385,7 +387,7 @@ abbrev pub keeps_open : Option Open → ℕ → ℕ → Lane → Bridge → Brid
 keeps_open None below place lane bridge = bridge
 keeps_open (Some held) below place lane bridge =
     if nat_lt held.number below && not held.is_answered
-    then answered_at (is_awake lane.phase) place held lane bridge else bridge
+    then answered_at (is_lane_awake lane.phase) place held lane bridge else bridge
 
 abbrev pub keeps : ℕ → ℕ → LaneSettings → Lane → Bridge → Bridge
 keeps below place own lane bridge = keeps_open lane.last below place lane bridge

@@ -28,9 +28,9 @@ use Rattle.br_core.specs.declared.state.Doing.TheVariants as doings
 use Rattle.br_core.specs.declared.state.Lane.{Lane}
 use Rattle.br_core.specs.Begins.{begun, moment_of}
 use Rattle.br_core.specs.Commands.{filter_for, stripped}
-use Rattle.br_core.specs.Lanes.{name_of}
-use Rattle.br_core.specs.Sides.{acknowledged, in_flight}
-use Rattle.br_core.specs.Steps.{id_in, step}
+use Rattle.br_core.specs.Lanes.{name_meant}
+use Rattle.br_core.specs.Sides.{item_in_flight, in_flight}
+use Rattle.br_core.specs.Steps.{delivery_id, step}
 
 -- what came, and the second of it
 abbrev pub Come : Type 0
@@ -53,8 +53,8 @@ done_from settings bridge [] = []
 done_from settings bridge (come ∷ more) =
     (stepped settings bridge come).out ++ done_from settings (stepped settings bridge come) more
 
-abbrev pub done : Settings → List Come → List Action
-done settings run = done_from settings (begun settings) run
+abbrev pub run_done : Settings → List Come → List Action
+run_done settings run = done_from settings (begun settings) run
 
 -- ---- what came
 
@@ -81,7 +81,7 @@ pub record CameOver (settings : Settings) (run : List Come) (item : Item) : Type
       ≡ item.number + 1
   pub has_own : slice_get settings.lanes item.lane ≡ Some own
   pub has_lane : slice_get (after settings earlier).lanes item.lane ≡ Some lane
-  pub has_name : name_of (kind_of flags.bits) topic own.names lane.ids ≡ Some name
+  pub has_name : name_meant (kind_of flags.bits) topic own.names lane.ids ≡ Some name
   pub has_up : slice_get own.names name ≡ Some up
   pub goes_to : item.topic ≡ up.topic
   pub is_kept : item.retain ≡ up.retain
@@ -115,7 +115,7 @@ pub record CameDown (settings : Settings) (run : List Come) (command : Command) 
   pub comes : run
       ≡ earlier
       ++ (events.Broker (packets.Publish delivery retain command.from command.body), moment) ∷ later
-  pub has_id : command.id ≡ id_in delivery
+  pub has_id : command.id ≡ delivery_id delivery
   pub goes_to : command.topic ≡ field_topic settings command.from
 
 -- The reading of this number came from the gateway of this lane, in a PUBLISH of this message id,
@@ -155,10 +155,10 @@ pub record Handed (settings : Settings) (run : List Come) (number : ℕ) : Type 
   pub moment : ℕ
   pub item : Item
   pub comes : run ≡ earlier ++ (events.Broker (packets.PubAck id), moment) ∷ later
-  pub taken : acknowledged id (after settings earlier).flight ≡ Some item
+  pub taken : item_in_flight id (after settings earlier).flight ≡ Some item
   pub same : item.number ≡ number
   pub came : Came settings earlier item
-  pub sent : IsSent id item (done settings earlier)
+  pub sent : IsSent id item (run_done settings earlier)
 
 -- The spool has the reading of this number: it says so of all numbers below another one, up to
 -- which readings had come by then.
@@ -182,16 +182,16 @@ IsOne levels.Zero = ⊥
 IsOne levels.One = Unit {0}
 
 -- a reading of this number, which wants an acknowledgement, waits for the broker, or is in flight
-abbrev pub Waits : ℕ → List Item → Type 0
-Waits number [] = ⊥
-Waits number (item ∷ more) = ((item.number ≡ number) × IsOne item.qos) ⊎ Waits number more
+abbrev pub WaitsAmong : ℕ → List Item → Type 0
+WaitsAmong number [] = ⊥
+WaitsAmong number (item ∷ more) = ((item.number ≡ number) × IsOne item.qos) ⊎ WaitsAmong number more
 
 abbrev pub Flies : ℕ → List Flight → Type 0
 Flies number [] = ⊥
 Flies number (f ∷ more) = (f.item.number ≡ number) ⊎ Flies number more
 
 abbrev pub IsIn : ℕ → Bridge → Type 0
-IsIn number bridge = Waits number bridge.waiting ⊎ Flies number bridge.flight
+IsIn number bridge = WaitsAmong number bridge.waiting ⊎ Flies number bridge.flight
 
 -- ---- commands
 
@@ -319,8 +319,8 @@ Rises low (number ∷ more) high = (low ≤ number) × Rises (number + 1) more h
 -- ---- what is taken in
 
 -- a PUBLISH comes over a lane, and has quality of service 1
-abbrev pub published : ℕ → Flags → ℕ → ℕ → List ℕ → ℕ → Come
-published place flags topic msg_id body moment =
+abbrev pub publish_comes : ℕ → Flags → ℕ → ℕ → List ℕ → ℕ → Come
+publish_comes place flags topic msg_id body moment =
     (events.Field place (frames.Publish flags topic msg_id body), moment)
 
 abbrev pub IsAtOne : Flags → Type 0
@@ -337,8 +337,8 @@ IsToStore number (action ∷ more) = Stores number action ⊎ IsToStore number m
 
 -- what comes takes no number; or the reading of the next number waits or is in flight then, and is
 -- to go into the spool, if there is one
-abbrev pub IsTaken : Settings → List Come → Come → Type 0
-IsTaken settings before come =
+abbrev pub TakesItsNumber : Settings → List Come → Come → Type 0
+TakesItsNumber settings before come =
     ((stepped settings (after settings before) come).number ≡ (after settings before).number)
     ⊎ (IsIn (after settings before).number (stepped settings (after settings before) come)
     × (settings.spools ≡ true

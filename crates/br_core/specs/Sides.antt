@@ -24,9 +24,9 @@ abbrev pub once_more : ℕ → ℕ
 once_more tries = if nat_lt tries 255 then tries + 1 else tries
 
 -- whether publications go both ways
-abbrev pub is_up : Side → Bool
-is_up sides.Up = true
-is_up side = false
+abbrev pub is_broker_up : Side → Bool
+is_broker_up sides.Up = true
+is_broker_up side = false
 
 -- one more thing is to be done
 abbrev pub does : Action → Bridge → Bridge
@@ -51,8 +51,8 @@ free_along [] id flight = id
 free_along (look ∷ more) id flight =
     if is_taken id flight then free_along more (next_id id) flight else id
 
-abbrev pub free_id : ℕ → List Flight → ℕ
-free_id id flight = free_along flight id flight
+abbrev pub free_packet_id : ℕ → List Flight → ℕ
+free_packet_id id flight = free_along flight id flight
 
 -- whether the broker takes one more reading of this quality of service now
 abbrev pub has_window : Settings → Qos → List Flight → Bool
@@ -69,48 +69,49 @@ sent_under id item bridge =
     })
 
 -- a reading is sent; without an acknowledgement it is handed on at once
-abbrev pub sent_at : Qos → Item → Bridge → Bridge
-sent_at levels.Zero item bridge = does (actions.Reading item.number (at_once item)) bridge
-sent_at levels.One item bridge = sent_under (free_id bridge.packet_id bridge.flight) item bridge
+abbrev pub item_sent : Qos → Item → Bridge → Bridge
+item_sent levels.Zero item bridge = does (actions.Reading item.number (at_once item)) bridge
+item_sent levels.One item bridge =
+    sent_under (free_packet_id bridge.packet_id bridge.flight) item bridge
 
 -- a reading waits behind those that wait
-abbrev pub waits : Item → Bridge → Bridge
-waits item bridge = record bridge { waiting = bridge.waiting ++ item ∷ [] }
+abbrev pub item_waits : Item → Bridge → Bridge
+item_waits item bridge = record bridge { waiting = bridge.waiting ++ item ∷ [] }
 
 -- A reading is sent, unless another one waits or the window is full: so they keep their order.
 abbrev pub offered : Settings → Bridge → Item → Bridge
 offered settings bridge item =
     if (length bridge.waiting == 0) && has_window settings item.qos bridge.flight
-    then sent_at item.qos item bridge else waits item bridge
+    then item_sent item.qos item bridge else item_waits item bridge
 
 -- what waits is sent from the front, as far as the window is open
 abbrev pub sent_along : Settings → List Item → Bridge → Bridge
 sent_along settings [] bridge = bridge
 sent_along settings (item ∷ more) bridge =
     if has_window settings item.qos bridge.flight
-    then sent_along settings more (sent_at item.qos item (record bridge { waiting = more }))
+    then sent_along settings more (item_sent item.qos item (record bridge { waiting = more }))
     else bridge
 
 abbrev pub sends : Settings → Bridge → Bridge
 sends settings bridge = sent_along settings bridge.waiting bridge
 
 -- while the broker is away, a reading that is not acknowledged is not kept
-abbrev pub kept_at : Qos → Item → Bridge → Bridge
-kept_at levels.Zero item bridge = bridge
-kept_at levels.One item bridge = waits item bridge
+abbrev pub kept_while_away : Qos → Item → Bridge → Bridge
+kept_while_away levels.Zero item bridge = bridge
+kept_while_away levels.One item bridge = item_waits item bridge
 
 -- a lane has brought a reading
 abbrev pub takes_at : Side → Settings → Item → Bridge → Bridge
 takes_at sides.Up settings item bridge = offered settings bridge item
-takes_at side settings item bridge = kept_at item.qos item bridge
+takes_at side settings item bridge = kept_while_away item.qos item bridge
 
 abbrev pub takes : Settings → Item → Bridge → Bridge
 takes settings item bridge = takes_at bridge.side settings item bridge
 
 -- the reading that a PUBACK of the broker acknowledges, and what is left in flight
-abbrev pub acknowledged : ℕ → List Flight → Option Item
-acknowledged id [] = None
-acknowledged id (f ∷ more) = if f.id == id then Some f.item else acknowledged id more
+abbrev pub item_in_flight : ℕ → List Flight → Option Item
+item_in_flight id [] = None
+item_in_flight id (f ∷ more) = if f.id == id then Some f.item else item_in_flight id more
 
 abbrev pub left_in_flight : ℕ → List Flight → List Flight
 left_in_flight id [] = []

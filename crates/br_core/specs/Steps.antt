@@ -22,9 +22,9 @@ use Rattle.br_core.specs.declared.state.Moment.{Moment}
 use Rattle.br_core.specs.declared.state.Side.{Side}
 use Rattle.br_core.specs.declared.state.Side.TheVariants as sides
 use Rattle.br_core.specs.declared.state.TheConstants.{BROKER_KEEP_ALIVE, LAST_NUMBER}
-use Rattle.br_core.specs.Commands.{begins, commanded, down_frame, down_tick, kept}
+use Rattle.br_core.specs.Commands.{command_begins, commanded, down_frame, down_tick, kept}
 use Rattle.br_core.specs.Lanes.{answers, falls_asleep, keeps, lane_frame, lane_tick, wakes}
-use Rattle.br_core.specs.Sides.{acknowledged, all_again, does, free_id, is_up, left_in_flight, next_id, sends, takes}
+use Rattle.br_core.specs.Sides.{item_in_flight, all_again, does, free_packet_id, is_broker_up, left_in_flight, next_id, sends, takes}
 
 -- what one lane does, if there is such a lane
 abbrev pub lane_does : Option LaneSettings → Option Lane → (LaneSettings → Lane → Bridge → Bridge)
@@ -50,10 +50,10 @@ each_lane settings f bridge = lanes_along settings.lanes 0 settings f bridge
 -- whether what lanes bring can be acknowledged soon: by the broker, or by the spool; else they
 -- sleep
 abbrev pub may_listen : Bridge → Bool
-may_listen bridge = is_up bridge.side || bridge.is_storing
+may_listen bridge = is_broker_up bridge.side || bridge.is_storing
 
-abbrev pub rests : Settings → Bridge → Bridge
-rests settings bridge =
+abbrev pub lanes_rest : Settings → Bridge → Bridge
+lanes_rest settings bridge =
     if may_listen bridge then bridge
     else each_lane settings (λ place. falls_asleep place) bridge
 
@@ -98,15 +98,15 @@ abbrev pub subscribing_at : Option DownFilter → Settings → ℕ → Moment �
 subscribing_at None settings next m bridge =
     up settings m (record bridge { is_subscribed = true })
 subscribing_at (Some entry) settings next m bridge =
-    subscribe_under (free_id bridge.packet_id bridge.flight) entry.filter next m bridge
+    subscribe_under (free_packet_id bridge.packet_id bridge.flight) entry.filter next m bridge
 
 abbrev pub subscribing : Settings → ℕ → Moment → Bridge → Bridge
 subscribing settings next m bridge =
     subscribing_at (slice_get settings.downs next) settings next m bridge
 
 -- the connection ends: what is in flight stays so, and what the broker sent comes again from it
-abbrev pub ended : ℕ → Bridge → Bridge
-ended due bridge =
+abbrev pub connection_ended : ℕ → Bridge → Bridge
+connection_ended due bridge =
     record bridge {
       side = sides.Closed;
       due = due;
@@ -115,12 +115,12 @@ ended due bridge =
     }
 
 -- lanes fall asleep, if they may not acknowledge
-abbrev pub lost : Settings → ℕ → Bridge → Bridge
-lost settings due bridge = rests settings (ended due bridge)
+abbrev pub connection_lost : Settings → ℕ → Bridge → Bridge
+connection_lost settings due bridge = lanes_rest settings (connection_ended due bridge)
 
 -- the connection is ended by the bridge, and dialled again when it is due
 abbrev pub hangs_up : Settings → ℕ → Bridge → Bridge
-hangs_up settings due bridge = does actions.HangUp (lost settings due bridge)
+hangs_up settings due bridge = does actions.HangUp (connection_lost settings due bridge)
 
 -- whether one of the filters hands on what the broker had kept
 abbrev pub wants_kept : List DownFilter → Bool
@@ -134,8 +134,8 @@ welcomed_at true settings m bridge = up settings m bridge
 welcomed_at false settings m bridge =
     subscribing settings 0 m (record bridge { is_subscribed = false })
 
-abbrev pub welcomed : Settings → Bool → ℕ → Moment → Bridge → Bridge
-welcomed settings session code m bridge =
+abbrev pub broker_welcomed : Settings → Bool → ℕ → Moment → Bridge → Bridge
+broker_welcomed settings session code m bridge =
     if code == 0
     then welcomed_at (session && bridge.is_subscribed && wants_kept settings.downs) settings m
     bridge
@@ -148,29 +148,30 @@ forgets settings number bridge =
 
 -- the broker has acknowledged a reading: its lane may, and what waits is sent; of another packet id
 -- nothing is in flight
-abbrev pub answered : Option Item → Settings → ℕ → Bridge → Bridge
-answered None settings id bridge = record bridge { flight = left_in_flight id bridge.flight }
-answered (Some item) settings id bridge =
+abbrev pub item_acked : Option Item → Settings → ℕ → Bridge → Bridge
+item_acked None settings id bridge = record bridge { flight = left_in_flight id bridge.flight }
+item_acked (Some item) settings id bridge =
     sends_all settings (at_lane settings item.lane (answers item.number item.lane)
     (forgets settings item.number (record bridge { flight = left_in_flight id bridge.flight })))
 
 abbrev pub broker_acked : Settings → ℕ → Bridge → Bridge
-broker_acked settings id bridge = answered (acknowledged id bridge.flight) settings id bridge
+broker_acked settings id bridge = item_acked (item_in_flight id bridge.flight) settings id bridge
 
 -- a publication of the broker is a command; without a packet id it wants no acknowledgement
-abbrev pub id_in : Delivery → ℕ
-id_in deliveries.Once = 0
-id_in (deliveries.Acknowledged id dup) = id
+abbrev pub delivery_id : Delivery → ℕ
+delivery_id deliveries.Once = 0
+delivery_id (deliveries.Acknowledged id dup) = id
 
-abbrev pub publication : Settings → Delivery → Bool → List ℕ → List ℕ → Moment → Bridge → Bridge
-publication settings delivery retain topic body m bridge =
-    begins m (commanded settings.downs (id_in delivery) retain topic body bridge)
+abbrev pub broker_publication : Settings → Delivery → Bool → List ℕ → List ℕ → Moment → Bridge
+    → Bridge
+broker_publication settings delivery retain topic body m bridge =
+    command_begins m (commanded settings.downs (delivery_id delivery) retain topic body bridge)
 
 -- a packet of the broker while publications go both ways
 abbrev pub up_packet : Settings → Moment → Packet → Bridge → Bridge
 up_packet settings m (packets.PubAck id) bridge = broker_acked settings id bridge
 up_packet settings m (packets.Publish delivery retain topic body) bridge =
-    publication settings delivery retain topic body m bridge
+    broker_publication settings delivery retain topic body m bridge
 up_packet settings m packet bridge = bridge
 
 -- whether a filter is granted as it was asked for, at quality of service 1
@@ -194,13 +195,14 @@ naming_packet settings next m packet bridge = up_packet settings m packet bridge
 -- the first packet is a CONNACK
 abbrev pub new_packet : Settings → Moment → Packet → Bridge → Bridge
 new_packet settings m (packets.ConnAck session code) bridge =
-    welcomed settings session code m bridge
+    broker_welcomed settings session code m bridge
 new_packet settings m packet bridge = hangs_up settings m.retry bridge
 
 -- what comes shows that the broker is there: the next sign of life is due later, if one was asked
 -- for
-abbrev pub heard : Moment → Bridge → Bridge
-heard m bridge = if bridge.tries == 0 then bridge else record bridge { tries = 0; due = m.ping }
+abbrev pub broker_heard : Moment → Bridge → Bridge
+broker_heard m bridge =
+    if bridge.tries == 0 then bridge else record bridge { tries = 0; due = m.ping }
 
 -- a packet of the broker, by how far the connection is
 abbrev pub packet_in : Side → Settings → Moment → Packet → Bridge → Bridge
@@ -208,11 +210,11 @@ packet_in sides.Closed settings m packet bridge = bridge
 packet_in sides.Connecting settings m packet bridge = new_packet settings m packet bridge
 packet_in (sides.Subscribing next) settings m packet bridge =
     naming_packet settings next m packet bridge
-packet_in sides.Up settings m packet bridge = up_packet settings m packet (heard m bridge)
+packet_in sides.Up settings m packet bridge = up_packet settings m packet (broker_heard m bridge)
 
 -- the connection is there: CONNECT, and the broker keeps the session
-abbrev pub opened : Settings → Moment → Bridge → Bridge
-opened settings m bridge =
+abbrev pub connection_opened : Settings → Moment → Bridge → Bridge
+connection_opened settings m bridge =
     does (actions.ToBroker
     (packets.Connect false BROKER_KEEP_ALIVE settings.client settings.will settings.login))
     (record bridge { side = sides.Connecting; due = m.retry; tries = 0 })
@@ -250,12 +252,12 @@ counts_on number bridge =
     if nat_le bridge.number number then record bridge { number = number } else bridge
 
 -- a reading that came before the bridge began goes on its way again, if it comes in its order
-abbrev pub is_next : Item → Bridge → Bool
-is_next item bridge = nat_le bridge.number item.number && nat_lt item.number LAST_NUMBER
+abbrev pub comes_in_order : Item → Bridge → Bool
+comes_in_order item bridge = nat_le bridge.number item.number && nat_lt item.number LAST_NUMBER
 
-abbrev pub found : Settings → Item → Bridge → Bridge
-found settings item bridge =
-    if is_next item bridge
+abbrev pub reading_found : Settings → Item → Bridge → Bridge
+reading_found settings item bridge =
+    if comes_in_order item bridge
     then takes settings item (record bridge { number = item.number + 1 }) else bridge
 
 -- The spool takes readings, and has those of smaller numbers than this one, all of which came:
@@ -271,7 +273,7 @@ stored settings below bridge =
 
 -- the spool takes no readings: lanes fall asleep, if the broker is away too
 abbrev pub store_failed : Settings → Bridge → Bridge
-store_failed settings bridge = rests settings (record bridge { is_storing = false })
+store_failed settings bridge = lanes_rest settings (record bridge { is_storing = false })
 
 -- what an event makes of the bridge, and adds to what is to be done
 abbrev pub event_step : Settings → Event → Moment → Bridge → Bridge
@@ -280,18 +282,18 @@ event_step settings (events.Field place frame) m bridge =
 event_step settings (events.Commands frame) m bridge = down_frame m frame bridge
 event_step settings (events.Broker packet) m bridge =
     packet_in bridge.side settings m packet bridge
-event_step settings events.BrokerOpen m bridge = opened settings m bridge
-event_step settings events.BrokerLost m bridge = lost settings m.soon bridge
+event_step settings events.BrokerOpen m bridge = connection_opened settings m bridge
+event_step settings events.BrokerLost m bridge = connection_lost settings m.soon bridge
 event_step settings (events.Kept line) m bridge = kept line m bridge
 event_step settings (events.Resumed number) m bridge = counts_on number bridge
-event_step settings (events.Found item) m bridge = found settings item bridge
+event_step settings (events.Found item) m bridge = reading_found settings item bridge
 event_step settings (events.Stored below) m bridge = stored settings below bridge
 event_step settings events.StoreFailed m bridge = store_failed settings bridge
 event_step settings events.Tick m bridge = ticks settings m bridge
 
 -- the step of an event: nothing is left to be done of the step before
-abbrev pub emptied : Bridge → Bridge
-emptied bridge = record bridge { out = [] }
+abbrev pub nothing_out : Bridge → Bridge
+nothing_out bridge = record bridge { out = [] }
 
 abbrev pub step : Settings → Event → Moment → Bridge → Bridge
-step settings event m bridge = event_step settings event m (emptied bridge)
+step settings event m bridge = event_step settings event m (nothing_out bridge)

@@ -21,6 +21,19 @@ use sn_topic::MAX_TOPIC;
 use std::alloc::Global;
 use std::mem;
 
+/// A publication of the broker.
+#[derive(Clone, Copy)]
+pub(crate) struct Message<'a> {
+    /// Its packet id; 0 if it wants no acknowledgement.
+    pub(crate) id: u16,
+    /// Whether the broker has kept it.
+    pub(crate) retain: bool,
+    /// Its topic.
+    pub(crate) topic: &'a Octets,
+    /// The message.
+    pub(crate) body: &'a Octets,
+}
+
 /// A frame to the gateway of the lane for commands.
 fn says(frame: Frame, bridge: &mut Bridge) -> Result<(), NoMemory>
     ensures { OnOk result (bridge.new ≡ spec.says_down frame bridge.old.down bridge.old) }
@@ -100,30 +113,29 @@ fn obstacle(command: &Command) -> Option<Why>
     }
 }
 
-/// A command waits for its turn.
+/// A command waits for its turn, under a topic of the field.
 fn queued(
     alloc: Global,
-    id: u16,
-    from: &Octets,
+    message: Message<'_>,
     topic: &[u8],
-    body: &Octets,
     bridge: &mut Bridge,
 ) -> Result<(), NoMemory>
-    ensures { OnOk result (bridge.new ≡ spec.queued id from.now topic.now body.now bridge.old) }
+    ensures { OnOk result (bridge.new ≡ spec.queued message.entry.id message.entry.topic.now
+        topic.now message.entry.body.now bridge.old) }
 {
     let command = Command {
-        id,
-        from: from.copied(alloc)?,
+        id: message.id,
+        from: message.topic.copied(alloc)?,
         topic: Octets::from_slice(alloc, topic)?,
-        body: body.copied(alloc)?,
+        body: message.body.copied(alloc)?,
     };
     bridge.down.queue.push(command)?;
     Ok(())
 }
 
 /// The broker is told that a publication was taken, if it wants to be (MQTT 3.1.1 section 3.4).
-fn told(id: u16, bridge: &mut Bridge) -> Result<(), NoMemory>
-    ensures { OnOk result (bridge.new ≡ spec.told id bridge.old) }
+fn broker_told(id: u16, bridge: &mut Bridge) -> Result<(), NoMemory>
+    ensures { OnOk result (bridge.new ≡ spec.broker_told id bridge.old) }
 {
     if id == 0 {
         return Ok(());
@@ -134,26 +146,24 @@ fn told(id: u16, bridge: &mut Bridge) -> Result<(), NoMemory>
 
 /// A publication of the broker waits for its turn. A message that the broker kept is acknowledged
 /// at once, unless the filter hands such messages on.
-fn asked(
+fn command_asked(
     alloc: Global,
     entry: Option<&DownFilter>,
-    id: u16,
-    retain: bool,
-    topic: &Octets,
-    body: &Octets,
+    message: Message<'_>,
     bridge: &mut Bridge,
 ) -> Result<(), NoMemory>
-    ensures { OnOk result (bridge.new ≡ spec.asked (option_copied entry.entry) id retain topic.now
-        body.now bridge.old) }
+    ensures { OnOk result
+        (bridge.new ≡ spec.command_asked (option_copied entry.entry) message.entry.id
+        message.entry.retain message.entry.topic.now message.entry.body.now bridge.old) }
 {
     let Some(entry) = entry else {
-        return queued(alloc, id, topic, &[], body, bridge);
+        return queued(alloc, message, &[], bridge);
     };
-    if retain && !entry.retained {
-        return told(id, bridge);
+    if message.retain && !entry.retained {
+        return broker_told(message.id, bridge);
     }
-    let rest = stripped(entry.strip.as_slice(), topic.as_slice());
-    queued(alloc, id, topic, rest, body, bridge)
+    let rest = stripped(entry.strip.as_slice(), message.topic.as_slice());
+    queued(alloc, message, rest, bridge)
 }
 
 /// Whether a packet id waits.
@@ -175,8 +185,8 @@ fn is_queued(id: u16, queue: &[Command]) -> bool
 }
 
 /// Whether there is no room for a command, or there was none for one before it.
-fn is_full(down: &Down) -> bool
-    ensures { result ≡ spec.is_full down.now }
+fn is_queue_full(down: &Down) -> bool
+    ensures { result ≡ spec.is_queue_full down.now }
 {
     down.is_behind || MAX_COMMANDS <= down.queue.len()
 }
@@ -196,24 +206,21 @@ fn passes_over(id: u16, bridge: &mut Bridge)
 pub(crate) fn commanded(
     alloc: Global,
     downs: &[DownFilter],
-    id: u16,
-    retain: bool,
-    topic: &Octets,
-    body: &Octets,
+    message: Message<'_>,
     bridge: &mut Bridge,
 ) -> Result<(), NoMemory>
-    ensures { OnOk result (bridge.new ≡ spec.commanded downs.now id retain topic.now body.now
-        bridge.old) }
+    ensures { OnOk result (bridge.new ≡ spec.commanded downs.now message.entry.id
+        message.entry.retain message.entry.topic.now message.entry.body.now bridge.old) }
 {
-    if is_queued(id, bridge.down.queue.as_slice()) {
+    if is_queued(message.id, bridge.down.queue.as_slice()) {
         return Ok(());
     }
-    if is_full(&bridge.down) {
-        passes_over(id, bridge);
+    if is_queue_full(&bridge.down) {
+        passes_over(message.id, bridge);
         return Ok(());
     }
-    let entry = filter_for(topic.as_slice(), downs);
-    asked(alloc, entry, id, retain, topic, body, bridge)
+    let entry = filter_for(message.topic.as_slice(), downs);
+    command_asked(alloc, entry, message, bridge)
 }
 
 /// The topic id of a topic.
@@ -229,8 +236,8 @@ fn id_of(topic: &[u8], ids: &[NamedTopic]) -> Option<u16>
 }
 
 /// A name of two octets is its own id (MQTT-SN 1.2 section 5.3.11).
-fn short_name(topic: &[u8]) -> Option<u16>
-    ensures { result ≡ spec.short_name topic.now }
+fn short_name_id(topic: &[u8]) -> Option<u16>
+    ensures { result ≡ spec.short_name_id topic.now }
 {
     match topic {
         [high, low] => Some(u16::from(*high) * 256 + u16::from(*low)),
@@ -284,8 +291,9 @@ fn publishing(
 
 /// REGISTER of a command's name (MQTT-SN 1.2 section 6.5); a session that has no id left begins
 /// anew.
-fn registering(m: Moment, command: Command, bridge: &mut Bridge) -> Result<(), NoMemory>
-    ensures { OnOk result (bridge.new ≡ spec.registering m command bridge.old.down bridge.old) }
+fn command_registering(m: Moment, command: Command, bridge: &mut Bridge) -> Result<(), NoMemory>
+    ensures { OnOk result
+        (bridge.new ≡ spec.command_registering m command bridge.old.down bridge.old) }
 {
     if MAX_NAMES <= bridge.down.ids.len() {
         drop(command);
@@ -316,15 +324,16 @@ fn away(m: Moment, bridge: &mut Bridge)
 
 /// A command goes out under its id, or its name is registered first.
 fn sent(dup: bool, m: Moment, command: Command, bridge: &mut Bridge) -> Result<(), NoMemory>
-    ensures { OnOk result (bridge.new ≡ spec.sent_as (spec.short_name command.topic) dup m command
+    ensures { OnOk result
+        (bridge.new ≡ spec.sent_as (spec.short_name_id command.topic) dup m command
         bridge.old.down bridge.old) }
 {
-    if let Some(id) = short_name(command.topic.as_slice()) {
+    if let Some(id) = short_name_id(command.topic.as_slice()) {
         return publishing(dup, true, id, m, command, bridge);
     }
     match id_of(command.topic.as_slice(), bridge.down.ids.as_slice()) {
         Some(id) => publishing(dup, false, id, m, command, bridge),
-        None => registering(m, command, bridge),
+        None => command_registering(m, command, bridge),
     }
 }
 
@@ -370,7 +379,7 @@ fn begun_by(dup: bool, m: Moment, command: Command, bridge: &mut Bridge) -> Resu
 
 /// A copy of the first command.
 fn first(alloc: Global, bridge: &Bridge) -> Result<Option<Command>, NoMemory>
-    ensures { IfOk result (λ found. found ≡ inner.first_of bridge.now.down.queue) }
+    ensures { IfOk result (λ found. found ≡ inner.first_command bridge.now.down.queue) }
 {
     match bridge.down.queue.as_slice() {
         [] => Ok(None),
@@ -379,8 +388,9 @@ fn first(alloc: Global, bridge: &Bridge) -> Result<Option<Command>, NoMemory>
 }
 
 /// The first command is begun.
-fn begun(alloc: Global, dup: bool, m: Moment, bridge: &mut Bridge) -> Result<(), NoMemory>
-    ensures { OnOk result (bridge.new ≡ spec.begun bridge.old.down.queue dup m bridge.old.down
+fn command_begun(alloc: Global, dup: bool, m: Moment, bridge: &mut Bridge) -> Result<(), NoMemory>
+    ensures { OnOk result
+        (bridge.new ≡ spec.command_begun bridge.old.down.queue dup m bridge.old.down
         bridge.old) }
 {
     match first(alloc, bridge)? {
@@ -390,19 +400,19 @@ fn begun(alloc: Global, dup: bool, m: Moment, bridge: &mut Bridge) -> Result<(),
 }
 
 /// The first command is begun, if none is.
-pub(crate) fn begins(alloc: Global, m: Moment, bridge: &mut Bridge) -> Result<(), NoMemory>
-    ensures { OnOk result (bridge.new ≡ spec.begins m bridge.old) }
+pub(crate) fn command_begins(alloc: Global, m: Moment, bridge: &mut Bridge) -> Result<(), NoMemory>
+    ensures { OnOk result (bridge.new ≡ spec.command_begins m bridge.old) }
 {
     let doing = bridge.down.doing;
     match doing {
-        Doing::Nothing => begun(alloc, false, m, bridge),
+        Doing::Nothing => command_begun(alloc, false, m, bridge),
         Doing::Registering | Doing::Publishing | Doing::Refusing { .. } => Ok(()),
     }
 }
 
 /// Takes the first command out of the queue.
 fn taken_first(alloc: Global, bridge: &mut Bridge) -> Option<Command>
-    ensures first { result ≡ inner.first_of bridge.old.down.queue }
+    ensures first { result ≡ inner.first_command bridge.old.down.queue }
     ensures rest { bridge.new ≡ inner.without_first bridge.old }
 {
     let mut queue = mem::replace(&mut bridge.down.queue, Sequence::empty(alloc)).into_vec();
@@ -426,17 +436,17 @@ fn done_with(alloc: Global, bridge: &mut Bridge) -> Result<(), NoMemory>
         Some(command) => {
             let id = command.id;
             drop(command);
-            told(id, bridge)
+            broker_told(id, bridge)
         }
     }
 }
 
 /// The first command is done: the broker is told, and the next one is begun.
-fn done(alloc: Global, m: Moment, bridge: &mut Bridge) -> Result<(), NoMemory>
-    ensures { OnOk result (bridge.new ≡ spec.done m bridge.old) }
+fn command_done(alloc: Global, m: Moment, bridge: &mut Bridge) -> Result<(), NoMemory>
+    ensures { OnOk result (bridge.new ≡ spec.command_done m bridge.old) }
 {
     done_with(alloc, bridge)?;
-    begins(alloc, m, bridge)
+    command_begins(alloc, m, bridge)
 }
 
 /// Congestion: it is sent again later.
@@ -459,7 +469,7 @@ fn answered_first(alloc: Global, code: u8, m: Moment, bridge: &mut Bridge) -> Re
     match code {
         0 => {
             drop(command);
-            done(alloc, m, bridge)
+            command_done(alloc, m, bridge)
         }
         1 => {
             drop(command);
@@ -476,8 +486,13 @@ fn answered_first(alloc: Global, code: u8, m: Moment, bridge: &mut Bridge) -> Re
 }
 
 /// The topic id of the first command's name is known.
-fn named(alloc: Global, id: u16, command: &Command, bridge: &mut Bridge) -> Result<(), NoMemory>
-    ensures { OnOk result (bridge.new ≡ spec.named id command.now bridge.old) }
+fn command_named(
+    alloc: Global,
+    id: u16,
+    command: &Command,
+    bridge: &mut Bridge,
+) -> Result<(), NoMemory>
+    ensures { OnOk result (bridge.new ≡ spec.command_named id command.now bridge.old) }
 {
     let topic = command.topic.copied(alloc)?;
     bridge.down.ids.push(NamedTopic { id, topic })?;
@@ -501,7 +516,7 @@ fn named_first(
     };
     match code {
         0 => {
-            if let Err(fault) = named(alloc, topic_id, &command, bridge) {
+            if let Err(fault) = command_named(alloc, topic_id, &command, bridge) {
                 drop(command);
                 return Err(fault);
             }
@@ -517,8 +532,8 @@ fn named_first(
 }
 
 /// What comes while nothing is awaited shows that the gateway is there.
-fn heard(m: Moment, bridge: &mut Bridge)
-    ensures { bridge.new ≡ spec.heard m bridge.old }
+fn command_lane_heard(m: Moment, bridge: &mut Bridge)
+    ensures { bridge.new ≡ spec.command_lane_heard m bridge.old }
 {
     let doing = bridge.down.doing;
     match doing {
@@ -553,7 +568,7 @@ fn acked(
             }
         }
         Doing::Nothing | Doing::Registering | Doing::Refusing { .. } => {
-            heard(m, bridge);
+            command_lane_heard(m, bridge);
             Ok(())
         }
     }
@@ -581,7 +596,7 @@ fn registered(
             }
         }
         Doing::Nothing | Doing::Publishing | Doing::Refusing { .. } => {
-            heard(m, bridge);
+            command_lane_heard(m, bridge);
             Ok(())
         }
     }
@@ -608,7 +623,7 @@ fn listening_frame(
             Ok(())
         }
         _ => {
-            heard(m, bridge);
+            command_lane_heard(m, bridge);
             Ok(())
         }
     }
@@ -639,7 +654,7 @@ fn connected(alloc: Global, m: Moment, frame: &Frame, bridge: &mut Bridge) -> Re
     bridge.down.tries = 0;
     bridge.down.due = m.ping;
     bridge.down.doing = unfinished(bridge.down.doing);
-    begins(alloc, m, bridge)
+    command_begins(alloc, m, bridge)
 }
 
 /// A frame of the gateway of the lane for commands.
@@ -665,8 +680,8 @@ fn again_at(alloc: Global, m: Moment, bridge: &mut Bridge) -> Result<(), NoMemor
 {
     let doing = bridge.down.doing;
     match doing {
-        Doing::Publishing => begun(alloc, true, m, bridge),
-        Doing::Registering => begun(alloc, false, m, bridge),
+        Doing::Publishing => command_begun(alloc, true, m, bridge),
+        Doing::Registering => command_begun(alloc, false, m, bridge),
         Doing::Nothing | Doing::Refusing { .. } => {
             let client = Octets::from_slice(alloc, &[])?;
             bridge.down.tries = once_more(bridge.down.tries);
@@ -677,8 +692,14 @@ fn again_at(alloc: Global, m: Moment, bridge: &mut Bridge) -> Result<(), NoMemor
 }
 
 /// What is due is sent again.
-fn again(alloc: Global, client: &Octets, m: Moment, bridge: &mut Bridge) -> Result<(), NoMemory>
-    ensures { OnOk result (bridge.new ≡ spec.again bridge.old.down.phase client.now m bridge.old) }
+fn command_again(
+    alloc: Global,
+    client: &Octets,
+    m: Moment,
+    bridge: &mut Bridge,
+) -> Result<(), NoMemory>
+    ensures { OnOk result
+        (bridge.new ≡ spec.command_again bridge.old.down.phase client.now m bridge.old) }
 {
     let phase = bridge.down.phase;
     match phase {
@@ -705,7 +726,7 @@ pub(crate) fn down_tick(
         away(m, bridge);
         return does(bridge, Action::NextCommands);
     }
-    again(alloc, client, m, bridge)
+    command_again(alloc, client, m, bridge)
 }
 
 /// A line is on the disk: it counts if it is that of the first command.
@@ -716,7 +737,7 @@ pub(crate) fn kept(alloc: Global, line: u64, m: Moment, bridge: &mut Bridge) -> 
     match doing {
         Doing::Refusing { line: own } => {
             if own == line {
-                done(alloc, m, bridge)
+                command_done(alloc, m, bridge)
             } else {
                 Ok(())
             }

@@ -1,8 +1,8 @@
 //! What a lane does: a client of the field that brings readings (MQTT-SN 1.2 sections 6.2 to 6.14).
-//! `place` is its place among the lanes, `own` are its settings, and `lane` a copy of it, which
-//! goes back into its place.
+//! `lane` is a copy of it, which goes back into its place among the lanes.
 
 ghost use Rattle.std.specs.Prelude.{◌≡◌, ◌<◌, ◌∷◌, ◌&&◌, not, if◌then◌else◌, length, IfOk, OnOk};
+ghost use Rattle.sn_frame.specs.FlagBits.{kind_of, qos_of};
 ghost use Rattle.br_core.specs.declared.state.TheConstants.{LAST_NUMBER};
 ghost use Rattle.br_core.specs.Lanes as spec;
 ghost use Rattle.br_core.specs.inner.Parts as inner;
@@ -10,7 +10,7 @@ ghost use Rattle.br_core.specs.inner.Parts as inner;
 use crate::action::Action;
 use crate::item::Item;
 use crate::settings::{LaneSettings, Settings, UpName};
-use crate::sides::{does, is_up, next_id, once_more, takes};
+use crate::sides::{does, is_broker_up, next_id, once_more, takes};
 use crate::state::{
     Bridge, KEEP_ALIVE, LAST_NUMBER, Lane, MAX_BODY, MAX_IDS, Moment, Named, Open, Phase, SLEEP,
     TRIES,
@@ -20,6 +20,47 @@ use octets::{NoMemory, Octets, Sequence};
 use sn_frame::{Flags, Frame, Qos as FieldQos, TopicIdType};
 use std::alloc::Global;
 use std::mem;
+
+/// What a lane works with, beside the lane itself and the bridge.
+#[derive(Clone, Copy)]
+pub(crate) struct Scene<'a> {
+    /// The memory.
+    pub(crate) alloc: Global,
+    /// The settings of the lane.
+    pub(crate) own: &'a LaneSettings,
+    /// Its place among the lanes.
+    pub(crate) place: usize,
+    /// The moment.
+    pub(crate) m: Moment,
+}
+
+/// A PUBLISH of the gateway of a lane.
+#[derive(Clone, Copy)]
+struct Message<'a> {
+    /// Its quality of service, and which kind of topic id it has.
+    flags: Flags,
+    /// The topic id.
+    topic_id: u16,
+    /// The message id.
+    msg_id: u16,
+    /// The message.
+    body: &'a Octets,
+}
+
+/// A PUBLISH under one of the names of its lane.
+#[derive(Clone, Copy)]
+struct Reading<'a> {
+    /// Which of the lane's names it has.
+    name: usize,
+    /// The name.
+    up: &'a UpName,
+    /// The topic id.
+    topic_id: u16,
+    /// The message id.
+    msg_id: u16,
+    /// The message.
+    body: &'a Octets,
+}
 
 /// A lane in its place.
 fn seated(place: usize, lane: Lane, bridge: &mut Bridge)
@@ -39,16 +80,10 @@ fn says(place: usize, frame: Frame, lane: Lane, bridge: &mut Bridge) -> Result<(
 }
 
 /// CONNECT (section 6.2). The session is kept; ids of the last connection are not.
-fn connecting(
-    alloc: Global,
-    own: &LaneSettings,
-    place: usize,
-    m: Moment,
-    lane: Lane,
-    bridge: &mut Bridge,
-) -> Result<(), NoMemory>
-    requires { place < length bridge.old.lanes }
-    ensures { OnOk result (bridge.new ≡ spec.connecting own.now place m lane bridge.old) }
+fn connecting(scene: Scene<'_>, lane: Lane, bridge: &mut Bridge) -> Result<(), NoMemory>
+    requires { scene.place < length bridge.old.lanes }
+    ensures { OnOk result (bridge.new ≡ spec.connecting scene.entry.own.now scene.entry.place
+        scene.entry.m lane bridge.old) }
 {
     let tries = once_more(lane.tries);
     let msg_id = lane.msg_id;
@@ -57,17 +92,17 @@ fn connecting(
         flags: Flags { bits: 0 },
         protocol: 1,
         duration: KEEP_ALIVE,
-        client: own.client.copied(alloc)?,
+        client: scene.own.client.copied(scene.alloc)?,
     };
     let begun = Lane {
         phase: Phase::Connecting,
         tries,
-        due: m.retry,
+        due: scene.m.retry,
         msg_id,
-        ids: Sequence::empty(alloc),
+        ids: Sequence::empty(scene.alloc),
         last: None,
     };
-    says(place, frame, begun, bridge)
+    says(scene.place, frame, begun, bridge)
 }
 
 /// The flags of a SUBSCRIBE (section 5.3.4).
@@ -84,25 +119,23 @@ fn subscribe_flags(up: &UpName) -> Flags
 
 /// SUBSCRIBE of the name of this number (section 6.9); after the last one the lane listens.
 fn subscribing(
-    alloc: Global,
-    own: &LaneSettings,
-    place: usize,
+    scene: Scene<'_>,
     next: usize,
-    m: Moment,
     mut lane: Lane,
     bridge: &mut Bridge,
 ) -> Result<(), NoMemory>
-    requires { place < length bridge.old.lanes }
-    ensures { OnOk result (bridge.new ≡ spec.subscribing own.now place next m lane bridge.old) }
+    requires { scene.place < length bridge.old.lanes }
+    ensures { OnOk result (bridge.new ≡ spec.subscribing scene.entry.own.now scene.entry.place next
+        scene.entry.m lane bridge.old) }
 {
-    let Some(up) = own.names.as_slice().get(next) else {
+    let Some(up) = scene.own.names.as_slice().get(next) else {
         lane.phase = Phase::Listening;
         lane.tries = 0;
-        lane.due = m.ping;
-        seated(place, lane, bridge);
+        lane.due = scene.m.ping;
+        seated(scene.place, lane, bridge);
         return Ok(());
     };
-    let topic = match up.name.copied(alloc) {
+    let topic = match up.name.copied(scene.alloc) {
         Ok(topic) => topic,
         Err(fault) => {
             drop(lane);
@@ -116,9 +149,9 @@ fn subscribing(
     };
     lane.phase = Phase::Subscribing { next };
     lane.tries = once_more(lane.tries);
-    lane.due = m.retry;
+    lane.due = scene.m.retry;
     lane.msg_id = next_id(lane.msg_id);
-    says(place, frame, lane, bridge)
+    says(scene.place, frame, lane, bridge)
 }
 
 /// Which of the names a topic id is.
@@ -134,8 +167,8 @@ fn name_at(id: u16, ids: &[Named]) -> Option<usize>
 }
 
 /// Where a name is among those of the lane.
-fn place_of(name: &[u8], names: &[UpName]) -> Option<usize>
-    ensures { result ≡ spec.place_of name.now names.now }
+fn name_place(name: &[u8], names: &[UpName]) -> Option<usize>
+    ensures { result ≡ spec.name_place name.now names.now }
 {
     for at in 0..names.len() {
         if names[at].name.as_slice() == name {
@@ -146,142 +179,125 @@ fn place_of(name: &[u8], names: &[UpName]) -> Option<usize>
 }
 
 /// Which of the names a topic field of PUBLISH means (section 5.3.11).
-fn name_of(kind: TopicIdType, topic: u16, names: &[UpName], ids: &[Named]) -> Option<usize>
-    ensures { result ≡ spec.name_of kind topic names.now ids.now }
+fn name_meant(kind: TopicIdType, topic: u16, names: &[UpName], ids: &[Named]) -> Option<usize>
+    ensures { result ≡ spec.name_meant kind topic names.now ids.now }
 {
     match kind {
         TopicIdType::Normal => name_at(topic, ids),
-        TopicIdType::Short => place_of(&[(topic / 256) as u8, (topic % 256) as u8], names),
+        TopicIdType::Short => name_place(&[(topic / 256) as u8, (topic % 256) as u8], names),
         TopicIdType::Predefined | TopicIdType::Reserved => None,
     }
 }
 
 /// A reading of a lane.
-fn item_of(
-    alloc: Global,
-    number: u64,
-    lane: usize,
-    qos: Qos,
-    up: &UpName,
-    body: &Octets,
-) -> Result<Item, NoMemory>
-    ensures { IfOk result (λ item. item ≡ spec.item_of number lane qos up.now body.now) }
+fn item_of(scene: Scene<'_>, number: u64, qos: Qos, reading: Reading<'_>) -> Result<Item, NoMemory>
+    ensures { IfOk result (λ item. item ≡ spec.item_of number scene.entry.place qos
+        reading.entry.up.now reading.entry.body.now) }
 {
     Ok(Item {
         number,
-        lane,
-        topic: up.topic.copied(alloc)?,
+        lane: scene.place,
+        topic: reading.up.topic.copied(scene.alloc)?,
         qos,
-        retain: up.retain,
-        body: body.copied(alloc)?,
+        retain: reading.up.retain,
+        body: reading.body.copied(scene.alloc)?,
     })
 }
 
 /// Whether the spool can keep these octets, if there is one. No gateway has more.
-fn fits(settings: &Settings, body: &Octets) -> bool
-    ensures { result ≡ spec.fits settings.now body.now }
+fn body_fits(settings: &Settings, body: &Octets) -> bool
+    ensures { result ≡ spec.body_fits settings.now body.now }
 {
     !settings.spools || body.len() <= MAX_BODY
 }
 
 /// Whether one more reading is taken, which has these octets.
-fn has_room(settings: &Settings, body: &Octets, bridge: &Bridge) -> bool
-    ensures { result ≡ spec.has_room settings.now body.now bridge.now }
+fn reading_has_room(settings: &Settings, body: &Octets, bridge: &Bridge) -> bool
+    ensures { result ≡ spec.reading_has_room settings.now body.now bridge.now }
 {
-    fits(settings, body) && bridge.waiting.len() < settings.room && bridge.number < LAST_NUMBER
+    body_fits(settings, body) && bridge.waiting.len() < settings.room && bridge.number < LAST_NUMBER
 }
 
 /// A reading of this quality of service gets the next number.
-fn counted(
-    alloc: Global,
+fn reading_counted(
     settings: &Settings,
-    place: usize,
+    scene: Scene<'_>,
     qos: Qos,
-    up: &UpName,
-    body: &Octets,
+    reading: Reading<'_>,
     bridge: &mut Bridge,
 ) -> Result<(), NoMemory>
     requires { bridge.old.number < LAST_NUMBER }
-    ensures { OnOk result (bridge.new ≡ spec.counted settings.now place qos up.now body.now
-        bridge.old) }
+    ensures { OnOk result (bridge.new ≡ spec.reading_counted settings.now scene.entry.place qos
+        reading.entry.up.now reading.entry.body.now bridge.old) }
 {
-    let item = item_of(alloc, bridge.number, place, qos, up, body)?;
+    let item = item_of(scene, bridge.number, qos, reading)?;
     bridge.number += 1;
-    takes(alloc, settings, item, bridge)
+    takes(scene.alloc, settings, item, bridge)
 }
 
-/// A reading goes into the spool, if there is one.
+/// A reading of this quality of service goes into the spool under its number, if there is one.
 fn stored(
-    alloc: Global,
     settings: &Settings,
+    scene: Scene<'_>,
     number: u64,
-    place: usize,
     qos: Qos,
-    up: &UpName,
-    body: &Octets,
+    reading: Reading<'_>,
     bridge: &mut Bridge,
 ) -> Result<(), NoMemory>
-    ensures { OnOk result (bridge.new ≡ spec.stored settings.now
-        (spec.item_of number place qos up.now body.now) bridge.old) }
+    ensures { OnOk result (bridge.new ≡ spec.stored settings.now (spec.item_of number
+        scene.entry.place qos reading.entry.up.now reading.entry.body.now) bridge.old) }
 {
     if !settings.spools {
         return Ok(());
     }
-    let item = item_of(alloc, number, place, qos, up, body)?;
+    let item = item_of(scene, number, qos, reading)?;
     does(bridge, Action::Store { item })
 }
 
 /// What a lane has brought and may not acknowledge yet.
-fn open_of(
-    alloc: Global,
-    number: u64,
-    name: usize,
-    topic_id: u16,
-    msg_id: u16,
-    body: &Octets,
-) -> Result<Open, NoMemory>
-    ensures { IfOk result (λ held. held ≡ spec.open_of number name topic_id msg_id body.now) }
+fn open_of(alloc: Global, number: u64, reading: Reading<'_>) -> Result<Open, NoMemory>
+    ensures { IfOk result (λ held. held ≡ spec.open_of number reading.entry.name
+        reading.entry.topic_id reading.entry.msg_id reading.entry.body.now) }
 {
     Ok(Open {
         number,
-        name,
-        topic_id,
-        msg_id,
-        body: body.copied(alloc)?,
+        name: reading.name,
+        topic_id: reading.topic_id,
+        msg_id: reading.msg_id,
+        body: reading.body.copied(alloc)?,
         is_answered: false,
     })
 }
 
 /// Whether it is the same message again: the same name, message id and octets.
-fn is_same(name: usize, msg_id: u16, body: &Octets, held: &Open) -> bool
-    ensures { result ≡ spec.is_same name msg_id body.now held.now }
+fn is_same(reading: Reading<'_>, held: &Open) -> bool
+    ensures { result ≡ spec.is_same reading.entry.name reading.entry.msg_id reading.entry.body.now
+        held.now }
 {
-    held.name == name && held.msg_id == msg_id && held.body.as_slice() == body.as_slice()
+    held.name == reading.name
+        && held.msg_id == reading.msg_id
+        && held.body.as_slice() == reading.body.as_slice()
 }
 
 /// A message of quality of service 1 is brought, and waits for its acknowledgement. Without room it
 /// is as if it had not come, and the lane falls asleep: its gateway keeps it.
 fn brings(
-    alloc: Global,
     settings: &Settings,
-    place: usize,
-    name: usize,
-    up: &UpName,
-    topic_id: u16,
-    msg_id: u16,
-    body: &Octets,
+    scene: Scene<'_>,
+    reading: Reading<'_>,
     mut lane: Lane,
     bridge: &mut Bridge,
 ) -> Result<(), NoMemory>
-    requires { place < length bridge.old.lanes }
-    ensures { OnOk result (bridge.new ≡ spec.brings settings.now place name up.now topic_id msg_id
-        body.now lane bridge.old) }
+    requires { scene.place < length bridge.old.lanes }
+    ensures { OnOk result (bridge.new ≡ spec.brings settings.now scene.entry.place
+        reading.entry.name reading.entry.up.now reading.entry.topic_id reading.entry.msg_id
+        reading.entry.body.now lane bridge.old) }
 {
-    if !has_room(settings, body, bridge) {
-        return falls_asleep(place, lane, bridge);
+    if !reading_has_room(settings, reading.body, bridge) {
+        return falls_asleep(scene.place, lane, bridge);
     }
     let number = bridge.number;
-    let held = match open_of(alloc, number, name, topic_id, msg_id, body) {
+    let held = match open_of(scene.alloc, number, reading) {
         Ok(held) => held,
         Err(fault) => {
             drop(lane);
@@ -289,9 +305,9 @@ fn brings(
         }
     };
     drop(mem::replace(&mut lane.last, Some(held)));
-    seated(place, lane, bridge);
-    counted(alloc, settings, place, Qos::One, up, body, bridge)?;
-    stored(alloc, settings, number, place, Qos::One, up, body, bridge)
+    seated(scene.place, lane, bridge);
+    reading_counted(settings, scene, Qos::One, reading, bridge)?;
+    stored(settings, scene, number, Qos::One, reading, bridge)
 }
 
 /// The same message again: one that was answered is acknowledged again, one that waits is not
@@ -329,16 +345,15 @@ fn again_at(
 fn same_open(
     alloc: Global,
     last: &Option<Open>,
-    name: usize,
-    msg_id: u16,
-    body: &Octets,
+    reading: Reading<'_>,
 ) -> Result<Option<Open>, NoMemory>
-    ensures { IfOk result (λ same. same ≡ inner.same_open last.now name msg_id body.now) }
+    ensures { IfOk result (λ same. same ≡ inner.same_open last.now reading.entry.name
+        reading.entry.msg_id reading.entry.body.now) }
 {
     match last {
         None => Ok(None),
         Some(held) => {
-            if is_same(name, msg_id, body, held) {
+            if is_same(reading, held) {
                 Ok(Some(held.copied(alloc)?))
             } else {
                 Ok(None)
@@ -349,26 +364,24 @@ fn same_open(
 
 /// A message of quality of service 1 comes, for the first time or again.
 fn brings_if(
-    alloc: Global,
     settings: &Settings,
-    place: usize,
-    name: usize,
-    up: &UpName,
-    topic_id: u16,
-    msg_id: u16,
-    body: &Octets,
+    scene: Scene<'_>,
+    reading: Reading<'_>,
     lane: Lane,
     bridge: &mut Bridge,
 ) -> Result<(), NoMemory>
-    requires { place < length bridge.old.lanes }
-    ensures { OnOk result (bridge.new ≡ spec.brings_if lane.last settings.now place name up.now
-        topic_id msg_id body.now lane bridge.old) }
+    requires { scene.place < length bridge.old.lanes }
+    ensures { OnOk result (bridge.new ≡ spec.brings_if lane.last settings.now scene.entry.place
+        reading.entry.name reading.entry.up.now reading.entry.topic_id reading.entry.msg_id
+        reading.entry.body.now lane bridge.old) }
 {
-    match same_open(alloc, &lane.last, name, msg_id, body) {
-        Ok(Some(held)) => again_at(place, topic_id, msg_id, held, lane, bridge),
-        Ok(None) => brings(
-            alloc, settings, place, name, up, topic_id, msg_id, body, lane, bridge,
-        ),
+    match same_open(scene.alloc, &lane.last, reading) {
+        Ok(Some(held)) => {
+            let topic_id = reading.topic_id;
+            let msg_id = reading.msg_id;
+            again_at(scene.place, topic_id, msg_id, held, lane, bridge)
+        }
+        Ok(None) => brings(settings, scene, reading, lane, bridge),
         Err(fault) => {
             drop(lane);
             Err(fault)
@@ -378,30 +391,28 @@ fn brings_if(
 
 /// Whether a reading of quality of service 0 goes on: the broker is there, and there is room. Else
 /// it takes no number, which the spool would have to count.
-fn goes_on(settings: &Settings, body: &Octets, bridge: &Bridge) -> bool
-    ensures { result ≡ spec.goes_on settings.now body.now bridge.now }
+fn reading_goes_on(settings: &Settings, body: &Octets, bridge: &Bridge) -> bool
+    ensures { result ≡ spec.reading_goes_on settings.now body.now bridge.now }
 {
-    is_up(bridge.side) && has_room(settings, body, bridge)
+    is_broker_up(bridge.side) && reading_has_room(settings, body, bridge)
 }
 
 /// A reading of quality of service 0 goes on, if it may.
 fn passes(
-    alloc: Global,
     settings: &Settings,
-    place: usize,
-    up: &UpName,
-    body: &Octets,
+    scene: Scene<'_>,
+    reading: Reading<'_>,
     lane: Lane,
     bridge: &mut Bridge,
 ) -> Result<(), NoMemory>
-    requires { place < length bridge.old.lanes }
-    ensures { OnOk result (bridge.new ≡ spec.passes settings.now place up.now body.now lane
-        bridge.old) }
+    requires { scene.place < length bridge.old.lanes }
+    ensures { OnOk result (bridge.new ≡ spec.passes settings.now scene.entry.place
+        reading.entry.up.now reading.entry.body.now lane bridge.old) }
 {
-    let passes_now = goes_on(settings, body, bridge);
-    seated(place, lane, bridge);
+    let passes_now = reading_goes_on(settings, reading.body, bridge);
+    seated(scene.place, lane, bridge);
     if passes_now {
-        counted(alloc, settings, place, Qos::Zero, up, body, bridge)
+        reading_counted(settings, scene, Qos::Zero, reading, bridge)
     } else {
         Ok(())
     }
@@ -419,8 +430,8 @@ fn refusal_at(phase: Phase) -> u8
 }
 
 /// The code that refuses a topic: after code 2 the gateway registers an id again.
-fn refusal(kind: TopicIdType, phase: Phase) -> u8
-    ensures { result ≡ spec.refusal kind phase }
+fn refusal_code(kind: TopicIdType, phase: Phase) -> u8
+    ensures { result ≡ spec.refusal_code kind phase }
 {
     match kind {
         TopicIdType::Normal => 2,
@@ -430,24 +441,23 @@ fn refusal(kind: TopicIdType, phase: Phase) -> u8
 
 /// A PUBLISH under a topic that is none of the lane's is refused.
 fn unknown(
-    qos: FieldQos,
-    kind: TopicIdType,
     place: usize,
-    topic_id: u16,
-    msg_id: u16,
+    message: Message<'_>,
     lane: Lane,
     bridge: &mut Bridge,
 ) -> Result<(), NoMemory>
     requires { place < length bridge.old.lanes }
-    ensures { OnOk result (bridge.new ≡ spec.unknown_at qos kind place topic_id msg_id lane
-        bridge.old) }
+    ensures { let bits = message.entry.flags.bits in
+        OnOk result (bridge.new ≡ spec.unknown_at (qos_of bits) (kind_of bits) place
+        message.entry.topic_id message.entry.msg_id lane bridge.old) }
 {
+    let qos = message.flags.qos();
     match qos {
         FieldQos::One => {
-            let code = refusal(kind, lane.phase);
+            let code = refusal_code(message.flags.kind(), lane.phase);
             let frame = Frame::PubAck {
-                topic_id,
-                msg_id,
+                topic_id: message.topic_id,
+                msg_id: message.msg_id,
                 code,
             };
             says(place, frame, lane, bridge)
@@ -461,87 +471,58 @@ fn unknown(
 
 /// A PUBLISH under a name of the lane, by its quality of service: 2 was never asked for.
 fn published(
-    alloc: Global,
-    qos: FieldQos,
     settings: &Settings,
-    place: usize,
-    name: usize,
-    up: &UpName,
-    topic_id: u16,
-    msg_id: u16,
-    body: &Octets,
+    scene: Scene<'_>,
+    qos: FieldQos,
+    reading: Reading<'_>,
     lane: Lane,
     bridge: &mut Bridge,
 ) -> Result<(), NoMemory>
-    requires { place < length bridge.old.lanes }
-    ensures { OnOk result (bridge.new ≡ spec.publication_at qos settings.now place name up.now
-        topic_id msg_id body.now lane bridge.old) }
+    requires { scene.place < length bridge.old.lanes }
+    ensures { OnOk result (bridge.new ≡ spec.publication_at qos settings.now scene.entry.place
+        reading.entry.name reading.entry.up.now reading.entry.topic_id reading.entry.msg_id
+        reading.entry.body.now lane bridge.old) }
 {
     match qos {
-        FieldQos::Zero => passes(alloc, settings, place, up, body, lane, bridge),
-        FieldQos::One => brings_if(
-            alloc, settings, place, name, up, topic_id, msg_id, body, lane, bridge,
-        ),
+        FieldQos::Zero => passes(settings, scene, reading, lane, bridge),
+        FieldQos::One => brings_if(settings, scene, reading, lane, bridge),
         FieldQos::Two | FieldQos::MinusOne => {
-            seated(place, lane, bridge);
+            seated(scene.place, lane, bridge);
             Ok(())
         }
     }
 }
 
 /// PUBLISH (section 6.6).
-fn publication(
-    alloc: Global,
+fn lane_publication(
     settings: &Settings,
-    own: &LaneSettings,
-    place: usize,
-    flags: Flags,
-    topic_id: u16,
-    msg_id: u16,
-    body: &Octets,
+    scene: Scene<'_>,
+    message: Message<'_>,
     lane: Lane,
     bridge: &mut Bridge,
 ) -> Result<(), NoMemory>
-    requires { place < length bridge.old.lanes }
-    ensures { OnOk result (bridge.new ≡ spec.publication settings.now own.now place flags topic_id
-        msg_id body.now lane bridge.old) }
+    requires { scene.place < length bridge.old.lanes }
+    ensures { OnOk result (bridge.new ≡ spec.lane_publication settings.now scene.entry.own.now
+        scene.entry.place message.entry.flags message.entry.topic_id message.entry.msg_id
+        message.entry.body.now lane bridge.old) }
 {
-    let names = own.names.as_slice();
-    let Some(name) = name_of(flags.kind(), topic_id, names, lane.ids.as_slice()) else {
-        return unknown(
-            flags.qos(),
-            flags.kind(),
-            place,
-            topic_id,
-            msg_id,
-            lane,
-            bridge,
-        );
+    let kind = message.flags.kind();
+    let topic_id = message.topic_id;
+    let names = scene.own.names.as_slice();
+    let Some(name) = name_meant(kind, topic_id, names, lane.ids.as_slice()) else {
+        return unknown(scene.place, message, lane, bridge);
     };
     let Some(up) = names.get(name) else {
-        return unknown(
-            flags.qos(),
-            flags.kind(),
-            place,
-            topic_id,
-            msg_id,
-            lane,
-            bridge,
-        );
+        return unknown(scene.place, message, lane, bridge);
     };
-    published(
-        alloc,
-        flags.qos(),
-        settings,
-        place,
+    let reading = Reading {
         name,
         up,
         topic_id,
-        msg_id,
-        body,
-        lane,
-        bridge,
-    )
+        msg_id: message.msg_id,
+        body: message.body,
+    };
+    published(settings, scene, message.flags.qos(), reading, lane, bridge)
 }
 
 /// The list with another one in front.
@@ -584,58 +565,53 @@ fn goes_away(place: usize, m: Moment, mut lane: Lane, bridge: &mut Bridge)
 
 /// REGISTER of one of the names gives its topic id (section 6.10); another name is none of the
 /// lane's. A lane that has as many ids as it holds connects anew.
-fn registered(
-    alloc: Global,
-    own: &LaneSettings,
-    place: usize,
-    m: Moment,
+fn name_registered(
+    scene: Scene<'_>,
     topic_id: u16,
     msg_id: u16,
     name: &Octets,
     lane: Lane,
     bridge: &mut Bridge,
 ) -> Result<(), NoMemory>
-    requires { place < length bridge.old.lanes }
-    ensures { OnOk result (bridge.new ≡ spec.registered (spec.place_of name.now own.now.names) place
-        m topic_id msg_id lane bridge.old) }
+    requires { scene.place < length bridge.old.lanes }
+    ensures { OnOk result (bridge.new ≡ spec.name_registered (spec.name_place name.now
+        scene.entry.own.now.names) scene.entry.place scene.entry.m topic_id msg_id lane
+        bridge.old) }
 {
-    let Some(at) = place_of(name.as_slice(), own.names.as_slice()) else {
+    let Some(at) = name_place(name.as_slice(), scene.own.names.as_slice()) else {
         let code = 3;
         let frame = Frame::RegAck {
             topic_id,
             msg_id,
             code,
         };
-        return says(place, frame, lane, bridge);
+        return says(scene.place, frame, lane, bridge);
     };
     if MAX_IDS <= lane.ids.len() {
-        goes_away(place, m, lane, bridge);
+        goes_away(scene.place, scene.m, lane, bridge);
         return Ok(());
     }
-    let lane = with_id(alloc, topic_id, at, lane)?;
+    let lane = with_id(scene.alloc, topic_id, at, lane)?;
     let code = 0;
     let frame = Frame::RegAck {
         topic_id,
         msg_id,
         code,
     };
-    says(place, frame, lane, bridge)
+    says(scene.place, frame, lane, bridge)
 }
 
 /// A frame that comes while the lane is connected.
 fn awake_frame(
-    alloc: Global,
     settings: &Settings,
-    own: &LaneSettings,
-    place: usize,
-    m: Moment,
+    scene: Scene<'_>,
     frame: &Frame,
     lane: Lane,
     bridge: &mut Bridge,
 ) -> Result<(), NoMemory>
-    requires { place < length bridge.old.lanes }
-    ensures { OnOk result (bridge.new ≡ spec.awake_frame settings.now own.now place m frame.now lane
-        bridge.old) }
+    requires { scene.place < length bridge.old.lanes }
+    ensures { OnOk result (bridge.new ≡ spec.awake_frame settings.now scene.entry.own.now
+        scene.entry.place scene.entry.m frame.now lane bridge.old) }
 {
     match frame {
         Frame::Publish {
@@ -643,20 +619,26 @@ fn awake_frame(
             topic,
             msg_id,
             body,
-        } => publication(
-            alloc, settings, own, place, *flags, *topic, *msg_id, body, lane, bridge,
-        ),
+        } => {
+            let message = Message {
+                flags: *flags,
+                topic_id: *topic,
+                msg_id: *msg_id,
+                body,
+            };
+            lane_publication(settings, scene, message, lane, bridge)
+        }
         Frame::Register {
             topic_id,
             msg_id,
             name,
-        } => registered(alloc, own, place, m, *topic_id, *msg_id, name, lane, bridge),
+        } => name_registered(scene, *topic_id, *msg_id, name, lane, bridge),
         Frame::Disconnect { .. } => {
-            goes_away(place, m, lane, bridge);
+            goes_away(scene.place, scene.m, lane, bridge);
             Ok(())
         }
         _ => {
-            seated(place, lane, bridge);
+            seated(scene.place, lane, bridge);
             Ok(())
         }
     }
@@ -664,16 +646,14 @@ fn awake_frame(
 
 /// CONNACK 0 begins the subscriptions.
 fn connected(
-    alloc: Global,
-    own: &LaneSettings,
-    place: usize,
-    m: Moment,
+    scene: Scene<'_>,
     frame: &Frame,
     mut lane: Lane,
     bridge: &mut Bridge,
 ) -> Result<(), NoMemory>
-    requires { place < length bridge.old.lanes }
-    ensures { OnOk result (bridge.new ≡ spec.connected own.now place m frame.now lane bridge.old) }
+    requires { scene.place < length bridge.old.lanes }
+    ensures { OnOk result (bridge.new ≡ spec.connected scene.entry.own.now scene.entry.place
+        scene.entry.m frame.now lane bridge.old) }
 {
     let Frame::ConnAck { code } = frame else {
         drop(lane);
@@ -684,25 +664,23 @@ fn connected(
         return Ok(());
     }
     lane.tries = 0;
-    subscribing(alloc, own, place, 0, m, lane, bridge)
+    subscribing(scene, 0, lane, bridge)
 }
 
 /// SUBACK 0 of the name gives its topic id, unless the name is short, and goes on to the next.
-fn subscribed(
-    alloc: Global,
-    own: &LaneSettings,
-    place: usize,
+fn lane_subscribed(
+    scene: Scene<'_>,
     next: usize,
-    m: Moment,
     topic_id: u16,
     code: u8,
     mut lane: Lane,
     bridge: &mut Bridge,
 ) -> Result<(), NoMemory>
-    requires seat { place < length bridge.old.lanes }
+    requires seat { scene.place < length bridge.old.lanes }
     requires fits { next < LAST_NUMBER }
-    ensures { OnOk result (bridge.new ≡ spec.subscribed own.now place next m topic_id code lane
-        bridge.old) }
+    ensures { OnOk result
+        (bridge.new ≡ spec.lane_subscribed scene.entry.own.now scene.entry.place next
+        scene.entry.m topic_id code lane bridge.old) }
 {
     if code != 0 {
         drop(lane);
@@ -710,10 +688,10 @@ fn subscribed(
     }
     lane.tries = 0;
     if topic_id == 0 {
-        return subscribing(alloc, own, place, next + 1, m, lane, bridge);
+        return subscribing(scene, next + 1, lane, bridge);
     }
-    let lane = with_id(alloc, topic_id, next, lane)?;
-    subscribing(alloc, own, place, next + 1, m, lane, bridge)
+    let lane = with_id(scene.alloc, topic_id, next, lane)?;
+    subscribing(scene, next + 1, lane, bridge)
 }
 
 /// Whether a SUBACK answers the SUBSCRIBE that was sent last.
@@ -725,19 +703,16 @@ fn is_its(next: usize, msg_id: u16, lane: &Lane) -> bool
 
 /// A frame that comes while a name is subscribed to.
 fn naming_frame(
-    alloc: Global,
     settings: &Settings,
-    own: &LaneSettings,
-    place: usize,
+    scene: Scene<'_>,
     next: usize,
-    m: Moment,
     frame: &Frame,
     lane: Lane,
     bridge: &mut Bridge,
 ) -> Result<(), NoMemory>
-    requires { place < length bridge.old.lanes }
-    ensures { OnOk result (bridge.new ≡ spec.naming_frame settings.now own.now place next m
-        frame.now lane bridge.old) }
+    requires { scene.place < length bridge.old.lanes }
+    ensures { OnOk result (bridge.new ≡ spec.naming_frame settings.now scene.entry.own.now
+        scene.entry.place next scene.entry.m frame.now lane bridge.old) }
 {
     match frame {
         Frame::SubAck {
@@ -747,20 +722,20 @@ fn naming_frame(
             ..
         } => {
             if is_its(next, *msg_id, &lane) {
-                subscribed(alloc, own, place, next, m, *topic_id, *code, lane, bridge)
+                lane_subscribed(scene, next, *topic_id, *code, lane, bridge)
             } else {
                 drop(lane);
                 Ok(())
             }
         }
-        _ => awake_frame(alloc, settings, own, place, m, frame, lane, bridge),
+        _ => awake_frame(settings, scene, frame, lane, bridge),
     }
 }
 
 /// What comes shows that the gateway is there: the next sign of life is due later, if one was asked
 /// for.
-fn heard(m: Moment, mut lane: Lane) -> Lane
-    ensures { result ≡ spec.heard m lane }
+fn lane_heard(m: Moment, mut lane: Lane) -> Lane
+    ensures { result ≡ spec.lane_heard m lane }
 {
     if lane.tries != 0 {
         lane.tries = 0;
@@ -771,18 +746,15 @@ fn heard(m: Moment, mut lane: Lane) -> Lane
 
 /// A frame of the gateway, by the phase.
 pub(crate) fn lane_frame(
-    alloc: Global,
     settings: &Settings,
-    place: usize,
-    m: Moment,
+    scene: Scene<'_>,
     frame: &Frame,
-    own: &LaneSettings,
     lane: Lane,
     bridge: &mut Bridge,
 ) -> Result<(), NoMemory>
-    requires { place < length bridge.old.lanes }
-    ensures { OnOk result (bridge.new ≡ spec.lane_frame settings.now place m frame.now own.now lane
-        bridge.old) }
+    requires { scene.place < length bridge.old.lanes }
+    ensures { OnOk result (bridge.new ≡ spec.lane_frame settings.now scene.entry.place
+        scene.entry.m frame.now scene.entry.own.now lane bridge.old) }
 {
     let phase = lane.phase;
     match phase {
@@ -790,22 +762,9 @@ pub(crate) fn lane_frame(
             drop(lane);
             Ok(())
         }
-        Phase::Connecting => connected(alloc, own, place, m, frame, lane, bridge),
-        Phase::Subscribing { next } => {
-            naming_frame(alloc, settings, own, place, next, m, frame, lane, bridge)
-        }
-        Phase::Listening => {
-            awake_frame(
-                alloc,
-                settings,
-                own,
-                place,
-                m,
-                frame,
-                heard(m, lane),
-                bridge,
-            )
-        }
+        Phase::Connecting => connected(scene, frame, lane, bridge),
+        Phase::Subscribing { next } => naming_frame(settings, scene, next, frame, lane, bridge),
+        Phase::Listening => awake_frame(settings, scene, frame, lane_heard(scene.m, lane), bridge),
     }
 }
 
@@ -826,24 +785,19 @@ fn pings(
 }
 
 /// What is due is sent again.
-fn again(
-    alloc: Global,
-    own: &LaneSettings,
-    place: usize,
-    m: Moment,
-    lane: Lane,
-    bridge: &mut Bridge,
-) -> Result<(), NoMemory>
-    requires { place < length bridge.old.lanes }
-    ensures { OnOk result (bridge.new ≡ spec.again lane.phase own.now place m lane bridge.old) }
+fn lane_again(scene: Scene<'_>, lane: Lane, bridge: &mut Bridge) -> Result<(), NoMemory>
+    requires { scene.place < length bridge.old.lanes }
+    ensures { OnOk result
+        (bridge.new ≡ spec.lane_again lane.phase scene.entry.own.now scene.entry.place
+        scene.entry.m lane bridge.old) }
 {
     let phase = lane.phase;
     match phase {
-        Phase::Away | Phase::Connecting => connecting(alloc, own, place, m, lane, bridge),
-        Phase::Subscribing { next } => subscribing(alloc, own, place, next, m, lane, bridge),
+        Phase::Away | Phase::Connecting => connecting(scene, lane, bridge),
+        Phase::Subscribing { next } => subscribing(scene, next, lane, bridge),
         Phase::Listening => {
-            match Octets::from_slice(alloc, &[]) {
-                Ok(client) => pings(place, m, lane, client, bridge),
+            match Octets::from_slice(scene.alloc, &[]) {
+                Ok(client) => pings(scene.place, scene.m, lane, client, bridge),
                 Err(fault) => {
                     drop(lane);
                     Err(fault)
@@ -867,25 +821,19 @@ fn gives_up(place: usize, m: Moment, lane: Lane, bridge: &mut Bridge) -> Result<
 }
 
 /// Time goes by.
-pub(crate) fn lane_tick(
-    alloc: Global,
-    place: usize,
-    m: Moment,
-    own: &LaneSettings,
-    lane: Lane,
-    bridge: &mut Bridge,
-) -> Result<(), NoMemory>
-    requires { place < length bridge.old.lanes }
-    ensures { OnOk result (bridge.new ≡ spec.lane_tick place m own.now lane bridge.old) }
+pub(crate) fn lane_tick(scene: Scene<'_>, lane: Lane, bridge: &mut Bridge) -> Result<(), NoMemory>
+    requires { scene.place < length bridge.old.lanes }
+    ensures { OnOk result (bridge.new ≡ spec.lane_tick scene.entry.place scene.entry.m
+        scene.entry.own.now lane bridge.old) }
 {
-    if m.at < lane.due {
+    if scene.m.at < lane.due {
         drop(lane);
         return Ok(());
     }
     if TRIES <= lane.tries {
-        return gives_up(place, m, lane, bridge);
+        return gives_up(scene.place, scene.m, lane, bridge);
     }
-    again(alloc, own, place, m, lane, bridge)
+    lane_again(scene, lane, bridge)
 }
 
 /// A lane that may not acknowledge falls asleep (section 6.14).
@@ -913,20 +861,14 @@ pub(crate) fn falls_asleep(
 }
 
 /// A lane that sleeps wakes: it connects.
-pub(crate) fn wakes(
-    alloc: Global,
-    place: usize,
-    m: Moment,
-    own: &LaneSettings,
-    lane: Lane,
-    bridge: &mut Bridge,
-) -> Result<(), NoMemory>
-    requires { place < length bridge.old.lanes }
-    ensures { OnOk result (bridge.new ≡ spec.wakes place m own.now lane bridge.old) }
+pub(crate) fn wakes(scene: Scene<'_>, lane: Lane, bridge: &mut Bridge) -> Result<(), NoMemory>
+    requires { scene.place < length bridge.old.lanes }
+    ensures { OnOk result (bridge.new ≡ spec.wakes scene.entry.place scene.entry.m
+        scene.entry.own.now lane bridge.old) }
 {
     let phase = lane.phase;
     match phase {
-        Phase::Asleep => connecting(alloc, own, place, m, lane, bridge),
+        Phase::Asleep => connecting(scene, lane, bridge),
         Phase::Away | Phase::Connecting | Phase::Subscribing { .. } | Phase::Listening => {
             drop(lane);
             Ok(())
@@ -935,8 +877,8 @@ pub(crate) fn wakes(
 }
 
 /// Whether the gateway takes an acknowledgement now.
-fn is_awake(phase: Phase) -> bool
-    ensures { result ≡ spec.is_awake phase }
+fn is_lane_awake(phase: Phase) -> bool
+    ensures { result ≡ spec.is_lane_awake phase }
 {
     match phase {
         Phase::Subscribing { .. } | Phase::Listening => true,
@@ -952,14 +894,15 @@ fn answered(
     bridge: &mut Bridge,
 ) -> Result<(), NoMemory>
     requires { place < length bridge.old.lanes }
-    ensures { OnOk result (bridge.new ≡ spec.answered_at (spec.is_awake lane.phase) place held lane
+    ensures { OnOk result
+        (bridge.new ≡ spec.answered_at (spec.is_lane_awake lane.phase) place held lane
         bridge.old) }
 {
     let topic_id = held.topic_id;
     let msg_id = held.msg_id;
     held.is_answered = true;
     drop(mem::replace(&mut lane.last, Some(held)));
-    if is_awake(lane.phase) {
+    if is_lane_awake(lane.phase) {
         let code = 0;
         let frame = Frame::PubAck {
             topic_id,
@@ -993,7 +936,7 @@ fn answered_if(
 ) -> Result<(), NoMemory>
     requires { place < length bridge.old.lanes }
     ensures { OnOk result (bridge.new ≡ (if is_due && not held.is_answered
-        then spec.answered_at (spec.is_awake lane.phase) place held lane bridge.old
+        then spec.answered_at (spec.is_lane_awake lane.phase) place held lane bridge.old
         else bridge.old)) }
 {
     if is_due && !held.is_answered {

@@ -5,8 +5,8 @@ ghost use Rattle.sn_frame.specs.declared.flags.Flags.{Flags};
 ghost use Rattle.br_core.specs.declared.event.Event.{Event};
 ghost use Rattle.br_core.specs.declared.item.Item.{Item};
 ghost use Rattle.br_core.specs.declared.settings.Settings.{Settings};
-ghost use Rattle.br_core.specs.Runs.{AreAllowed, Come, Handed, IsAtOne, IsIn, IsOne, IsTaken, Rises, after, done, firsts, found_again, published, stepped};
-ghost use Rattle.br_core.specs.Steps.{is_next};
+ghost use Rattle.br_core.specs.Runs.{AreAllowed, Come, Handed, IsAtOne, IsIn, IsOne, TakesItsNumber, Rises, after, run_done, firsts, found_again, publish_comes, stepped};
+ghost use Rattle.br_core.specs.Steps.{comes_in_order};
 
 /// What was taken from one side is acknowledged there only after the other side has acknowledged
 /// it, or after the spool has it, or after a line of what no side will have is on the disk. What
@@ -28,7 +28,7 @@ pub fn acknowledges_behind()
 pub fn takes_in()
     ensures { (settings : Settings) (before : List Come) (place topic msg_id moment : ℕ)
         (flags : Flags) (body : List ℕ) → IsAtOne flags
-        → IsTaken settings before (published place flags topic msg_id body moment) }
+        → TakesItsNumber settings before (publish_comes place flags topic msg_id body moment) }
 {}
 
 /// A reading of quality of service 1 that the spool has kept since before the bridge began waits in
@@ -36,7 +36,7 @@ pub fn takes_in()
 /// is the law.
 pub fn finds_again()
     ensures { (settings : Settings) (before : List Come) (item : Item) (moment : ℕ)
-        → IsOne item.qos → is_next item (after settings before) ≡ true
+        → IsOne item.qos → comes_in_order item (after settings before) ≡ true
         → IsIn item.number (stepped settings (after settings before) (found_again item moment)) }
 {}
 
@@ -54,5 +54,5 @@ pub fn nothing_drops()
 /// its order. The function does nothing; its contract is the law.
 pub fn keeps_order()
     ensures { (settings : Settings) (run : List Come)
-        → Rises 0 (firsts (done settings run)) (after settings run).number }
+        → Rises 0 (firsts (run_done settings run)) (after settings run).number }
 {}

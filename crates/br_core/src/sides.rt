@@ -28,8 +28,8 @@ pub(crate) fn once_more(tries: u8) -> u8
 }
 
 /// Whether publications go both ways.
-pub(crate) fn is_up(side: Side) -> bool
-    ensures { result ≡ spec.is_up side }
+pub(crate) fn is_broker_up(side: Side) -> bool
+    ensures { result ≡ spec.is_broker_up side }
 {
     match side {
         Side::Up => true,
@@ -78,8 +78,8 @@ fn is_taken(id: u16, flight: &[Flight]) -> bool
 }
 
 /// The first packet id from this one on that is not in flight (MQTT 3.1.1 section 2.3.1).
-pub(crate) fn free_id(id: u16, flight: &[Flight]) -> u16
-    ensures { result ≡ spec.free_id id flight.now }
+pub(crate) fn free_packet_id(id: u16, flight: &[Flight]) -> u16
+    ensures { result ≡ spec.free_packet_id id flight.now }
 {
     let mut free = id;
     for look in flight {
@@ -133,7 +133,7 @@ fn sent_under(alloc: Global, id: u16, item: Item, bridge: &mut Bridge) -> Result
 
 /// A reading is sent; without an acknowledgement it is handed on at once.
 fn sent(alloc: Global, item: Item, bridge: &mut Bridge) -> Result<(), NoMemory>
-    ensures { OnOk result (bridge.new ≡ spec.sent_at item.qos item bridge.old) }
+    ensures { OnOk result (bridge.new ≡ spec.item_sent item.qos item bridge.old) }
 {
     match item.qos {
         Qos::Zero => {
@@ -142,15 +142,15 @@ fn sent(alloc: Global, item: Item, bridge: &mut Bridge) -> Result<(), NoMemory>
             does(bridge, Action::Reading { number, packet })
         }
         Qos::One => {
-            let id = free_id(bridge.packet_id, bridge.flight.as_slice());
+            let id = free_packet_id(bridge.packet_id, bridge.flight.as_slice());
             sent_under(alloc, id, item, bridge)
         }
     }
 }
 
 /// A reading waits behind those that wait.
-fn waits(item: Item, bridge: &mut Bridge) -> Result<(), NoMemory>
-    ensures { OnOk result (bridge.new ≡ spec.waits item bridge.old) }
+fn item_waits(item: Item, bridge: &mut Bridge) -> Result<(), NoMemory>
+    ensures { OnOk result (bridge.new ≡ spec.item_waits item bridge.old) }
 {
     bridge.waiting.push(item)?;
     Ok(())
@@ -176,7 +176,7 @@ fn offered(
     if is_sent(settings, item.qos, bridge) {
         sent(alloc, item, bridge)
     } else {
-        waits(item, bridge)
+        item_waits(item, bridge)
     }
 }
 
@@ -215,14 +215,14 @@ pub(crate) fn sends(alloc: Global, settings: &Settings, bridge: &mut Bridge) -> 
 
 /// While the broker is away, a reading that is not acknowledged is not kept.
 fn kept(item: Item, bridge: &mut Bridge) -> Result<(), NoMemory>
-    ensures { OnOk result (bridge.new ≡ spec.kept_at item.qos item bridge.old) }
+    ensures { OnOk result (bridge.new ≡ spec.kept_while_away item.qos item bridge.old) }
 {
     match item.qos {
         Qos::Zero => {
             drop(item);
             Ok(())
         }
-        Qos::One => waits(item, bridge),
+        Qos::One => item_waits(item, bridge),
     }
 }
 
@@ -245,10 +245,10 @@ pub(crate) fn takes(
 /// Where the flight of a packet id is: the first of them.
 fn place_of(id: u16, flight: &[Flight]) -> Option<usize>
     ensures { MatchOption result
-        ((spec.acknowledged id flight.now ≡ None)
+        ((spec.item_in_flight id flight.now ≡ None)
         × (spec.left_in_flight id flight.now ≡ flight.now))
         (λ at. (at < length flight.now)
-        × (spec.acknowledged id flight.now ≡ option_map (λ f. f.item) (slice_get flight.now at))
+        × (spec.item_in_flight id flight.now ≡ option_map (λ f. f.item) (slice_get flight.now at))
         × (spec.left_in_flight id flight.now ≡ remove flight.now at)) }
 {
     for at in 0..flight.len() {
@@ -261,7 +261,7 @@ fn place_of(id: u16, flight: &[Flight]) -> Option<usize>
 
 /// Takes the flight of a packet id out, and gives its reading.
 fn taken_out(id: u16, flight: &mut Vec<Flight>) -> Option<Item>
-    ensures item { result ≡ spec.acknowledged id flight.old.items }
+    ensures item { result ≡ spec.item_in_flight id flight.old.items }
     ensures left { flight.new.items ≡ spec.left_in_flight id flight.old.items }
 {
     match place_of(id, flight.as_slice()) {
@@ -274,8 +274,8 @@ fn taken_out(id: u16, flight: &mut Vec<Flight>) -> Option<Item>
 }
 
 /// The reading that a PUBACK of the broker acknowledges, which is in flight no more.
-pub(crate) fn acknowledged(alloc: Global, id: u16, bridge: &mut Bridge) -> Option<Item>
-    ensures item { result ≡ spec.acknowledged id bridge.old.flight }
+pub(crate) fn item_in_flight(alloc: Global, id: u16, bridge: &mut Bridge) -> Option<Item>
+    ensures item { result ≡ spec.item_in_flight id bridge.old.flight }
     ensures left { bridge.new ≡ record bridge.old {
       flight = spec.left_in_flight id
           bridge.old.flight;

@@ -2,19 +2,22 @@
 
 ghost use Rattle.std.specs.Prelude.{◌≡◌, ◌<◌, length, IfOk, OnOk};
 ghost use Rattle.br_core.specs.Begins as begins_spec;
+ghost use Rattle.br_core.specs.Commands as commands_spec;
 ghost use Rattle.br_core.specs.Lanes as lanes_spec;
 ghost use Rattle.br_core.specs.Steps as spec;
 ghost use Rattle.br_core.specs.inner.Works.{worked};
 ghost use Rattle.br_core.specs.declared.state.TheConstants.{LAST_NUMBER};
 
 use crate::action::Action;
-use crate::commands::{begins, commanded, down_frame, down_tick, kept};
+use crate::commands::{Message, command_begins, commanded, down_frame, down_tick, kept};
 use crate::event::Event;
 use crate::item::Item;
-use crate::lanes::{answers, falls_asleep, keeps, lane_frame, lane_tick, wakes};
+use crate::lanes::{Scene, answers, falls_asleep, keeps, lane_frame, lane_tick, wakes};
 use crate::queue::Queue;
 use crate::settings::{DownFilter, LaneSettings, Settings};
-use crate::sides::{acknowledged, all_again, does, free_id, is_up, next_id, sends, takes};
+use crate::sides::{
+    all_again, does, free_packet_id, is_broker_up, item_in_flight, next_id, sends, takes,
+};
 use crate::state::{
     BROKER_KEEP_ALIVE, Bridge, Doing, Down, LAST_NUMBER, Lane, Moment, Phase, Side,
 };
@@ -83,7 +86,13 @@ fn frame_at(
         return Ok(());
     };
     let lane = lane.copied(alloc)?;
-    lane_frame(alloc, settings, place, m, frame, own, lane, bridge)
+    let scene = Scene {
+        alloc,
+        own,
+        place,
+        m,
+    };
+    lane_frame(settings, scene, frame, lane, bridge)
 }
 
 /// What a lane does without a frame of its gateway.
@@ -114,9 +123,25 @@ fn works(
     ensures { OnOk result (bridge.new ≡ worked work place own.now lane bridge.old) }
 {
     match work {
-        Work::Tick { m } => lane_tick(alloc, place, m, own, lane, bridge),
+        Work::Tick { m } => {
+            let scene = Scene {
+                alloc,
+                own,
+                place,
+                m,
+            };
+            lane_tick(scene, lane, bridge)
+        }
         Work::Sleep => falls_asleep(place, lane, bridge),
-        Work::Wake { m } => wakes(alloc, place, m, own, lane, bridge),
+        Work::Wake { m } => {
+            let scene = Scene {
+                alloc,
+                own,
+                place,
+                m,
+            };
+            wakes(scene, lane, bridge)
+        }
         Work::Answer { number } => answers(alloc, number, place, lane, bridge),
         Work::Keep { below } => keeps(alloc, below, place, lane, bridge),
     }
@@ -163,12 +188,12 @@ fn all_work(
 fn may_listen(bridge: &Bridge) -> bool
     ensures { result ≡ spec.may_listen bridge.now }
 {
-    is_up(bridge.side) || bridge.is_storing
+    is_broker_up(bridge.side) || bridge.is_storing
 }
 
 /// Lanes fall asleep if they may not acknowledge.
-fn rests(alloc: Global, settings: &Settings, bridge: &mut Bridge) -> Result<(), NoMemory>
-    ensures { OnOk result (bridge.new ≡ spec.rests settings.now bridge.old) }
+fn lanes_rest(alloc: Global, settings: &Settings, bridge: &mut Bridge) -> Result<(), NoMemory>
+    ensures { OnOk result (bridge.new ≡ spec.lanes_rest settings.now bridge.old) }
 {
     if may_listen(bridge) {
         return Ok(());
@@ -251,7 +276,7 @@ fn subscribing(
         return up(alloc, settings, m, bridge);
     };
     let filter = entry.filter.copied(alloc)?;
-    let id = free_id(bridge.packet_id, bridge.flight.as_slice());
+    let id = free_packet_id(bridge.packet_id, bridge.flight.as_slice());
     bridge.side = Side::Subscribing { next };
     bridge.due = m.retry;
     bridge.packet_id = next_id(id);
@@ -262,8 +287,8 @@ fn subscribing(
 
 /// The connection is over: what is in flight stays so, and what the broker sent comes again from
 /// it.
-fn ended(alloc: Global, due: u64, bridge: &mut Bridge)
-    ensures { bridge.new ≡ spec.ended due bridge.old }
+fn connection_ended(alloc: Global, due: u64, bridge: &mut Bridge)
+    ensures { bridge.new ≡ spec.connection_ended due bridge.old }
 {
     bridge.side = Side::Closed;
     bridge.due = due;
@@ -274,11 +299,16 @@ fn ended(alloc: Global, due: u64, bridge: &mut Bridge)
 }
 
 /// The connection is over, and lanes fall asleep, if they may not acknowledge.
-fn lost(alloc: Global, settings: &Settings, due: u64, bridge: &mut Bridge) -> Result<(), NoMemory>
-    ensures { OnOk result (bridge.new ≡ spec.lost settings.now due bridge.old) }
+fn connection_lost(
+    alloc: Global,
+    settings: &Settings,
+    due: u64,
+    bridge: &mut Bridge,
+) -> Result<(), NoMemory>
+    ensures { OnOk result (bridge.new ≡ spec.connection_lost settings.now due bridge.old) }
 {
-    ended(alloc, due, bridge);
-    rests(alloc, settings, bridge)
+    connection_ended(alloc, due, bridge);
+    lanes_rest(alloc, settings, bridge)
 }
 
 /// The bridge ends the connection, which is dialled again when it is due.
@@ -290,7 +320,7 @@ fn hangs_up(
 ) -> Result<(), NoMemory>
     ensures { OnOk result (bridge.new ≡ spec.hangs_up settings.now due bridge.old) }
 {
-    lost(alloc, settings, due, bridge)?;
+    connection_lost(alloc, settings, due, bridge)?;
     does(bridge, Action::HangUp)
 }
 
@@ -305,7 +335,7 @@ fn wants_kept(downs: &[DownFilter]) -> bool
 /// it had saved may have lost some. But they are not if the broker knows the session, this run has
 /// subscribed to all of them, and one hands on what the broker had kept, which would come again. Or
 /// the broker does not want us, and is asked again in a minute.
-fn welcomed(
+fn broker_welcomed(
     alloc: Global,
     settings: &Settings,
     session: bool,
@@ -313,7 +343,8 @@ fn welcomed(
     m: Moment,
     bridge: &mut Bridge,
 ) -> Result<(), NoMemory>
-    ensures { OnOk result (bridge.new ≡ spec.welcomed settings.now session code m bridge.old) }
+    ensures { OnOk result
+        (bridge.new ≡ spec.broker_welcomed settings.now session code m bridge.old) }
 {
     if code != 0 {
         return hangs_up(alloc, settings, m.minute, bridge);
@@ -345,7 +376,7 @@ fn answered(
 ) -> Result<(), NoMemory>
     ensures { OnOk result (bridge.new ≡ spec.broker_acked settings.now id bridge.old) }
 {
-    let Some(item) = acknowledged(alloc, id, bridge) else {
+    let Some(item) = item_in_flight(alloc, id, bridge) else {
         return Ok(());
     };
     let number = item.number;
@@ -357,8 +388,8 @@ fn answered(
 }
 
 /// The packet id of a publication; 0 where it wants no acknowledgement.
-fn id_in(delivery: Delivery) -> u16
-    ensures { result ≡ spec.id_in delivery }
+fn delivery_id(delivery: Delivery) -> u16
+    ensures { result ≡ spec.delivery_id delivery }
 {
     match delivery {
         Delivery::Once => 0,
@@ -367,22 +398,19 @@ fn id_in(delivery: Delivery) -> u16
 }
 
 /// PUBLISH of the broker (MQTT 3.1.1 section 3.3): a command.
-fn publication(
+fn broker_publication(
     alloc: Global,
     settings: &Settings,
-    delivery: Delivery,
-    retain: bool,
-    topic: &Octets,
-    body: &Octets,
+    message: Message<'_>,
     m: Moment,
     bridge: &mut Bridge,
 ) -> Result<(), NoMemory>
-    ensures { OnOk result (bridge.new ≡ spec.publication settings.now delivery retain topic.now
-        body.now m bridge.old) }
+    ensures { OnOk result (bridge.new ≡ commands_spec.command_begins m (commands_spec.commanded
+        settings.now.downs message.entry.id message.entry.retain message.entry.topic.now
+        message.entry.body.now bridge.old)) }
 {
-    let downs = settings.downs.as_slice();
-    commanded(alloc, downs, id_in(delivery), retain, topic, body, bridge)?;
-    begins(alloc, m, bridge)
+    commanded(alloc, settings.downs.as_slice(), message, bridge)?;
+    command_begins(alloc, m, bridge)
 }
 
 /// A packet of the broker while publications go both ways.
@@ -402,7 +430,15 @@ fn up_packet(
             retain,
             topic,
             body,
-        } => publication(alloc, settings, *delivery, *retain, topic, body, m, bridge),
+        } => {
+            let message = Message {
+                id: delivery_id(*delivery),
+                retain: *retain,
+                topic,
+                body,
+            };
+            broker_publication(alloc, settings, message, m, bridge)
+        }
         _ => Ok(()),
     }
 }
@@ -473,7 +509,7 @@ fn new_packet(
 {
     match packet {
         Packet::ConnAck { session, code } => {
-            welcomed(alloc, settings, *session, *code, m, bridge)
+            broker_welcomed(alloc, settings, *session, *code, m, bridge)
         }
         _ => hangs_up(alloc, settings, m.retry, bridge),
     }
@@ -481,8 +517,8 @@ fn new_packet(
 
 /// What comes shows that the broker is there: the next sign of life is due later, if one was asked
 /// for.
-fn heard(m: Moment, bridge: &mut Bridge)
-    ensures { bridge.new ≡ spec.heard m bridge.old }
+fn broker_heard(m: Moment, bridge: &mut Bridge)
+    ensures { bridge.new ≡ spec.broker_heard m bridge.old }
 {
     if bridge.tries != 0 {
         bridge.tries = 0;
@@ -507,7 +543,7 @@ fn packet_in(
         Side::Connecting => new_packet(alloc, settings, m, packet, bridge),
         Side::Subscribing { next } => naming_packet(alloc, settings, next, m, packet, bridge),
         Side::Up => {
-            heard(m, bridge);
+            broker_heard(m, bridge);
             up_packet(alloc, settings, m, packet, bridge)
         }
     }
@@ -552,13 +588,13 @@ fn login_of(alloc: Global, login: &Option<Login>) -> Result<Option<Login>, NoMem
 }
 
 /// The connection is there: CONNECT (MQTT 3.1.1 section 3.1), and the broker keeps the session.
-fn opened(
+fn connection_opened(
     alloc: Global,
     settings: &Settings,
     m: Moment,
     bridge: &mut Bridge,
 ) -> Result<(), NoMemory>
-    ensures { OnOk result (bridge.new ≡ spec.opened settings.now m bridge.old) }
+    ensures { OnOk result (bridge.new ≡ spec.connection_opened settings.now m bridge.old) }
 {
     let packet = Packet::Connect {
         clean: false,
@@ -635,22 +671,22 @@ fn counts_on(number: u64, bridge: &mut Bridge)
 }
 
 /// Whether a reading that the spool has kept comes in its order.
-fn is_next(item: &Item, bridge: &Bridge) -> bool
-    ensures { result ≡ spec.is_next item.now bridge.now }
+fn comes_in_order(item: &Item, bridge: &Bridge) -> bool
+    ensures { result ≡ spec.comes_in_order item.now bridge.now }
 {
     bridge.number <= item.number && item.number < LAST_NUMBER
 }
 
 /// A reading that came before the bridge began goes on its way again.
-fn found(
+fn reading_found(
     alloc: Global,
     settings: &Settings,
     item: &Item,
     bridge: &mut Bridge,
 ) -> Result<(), NoMemory>
-    ensures { OnOk result (bridge.new ≡ spec.found settings.now item.now bridge.old) }
+    ensures { OnOk result (bridge.new ≡ spec.reading_found settings.now item.now bridge.old) }
 {
-    if !is_next(item, bridge) {
+    if !comes_in_order(item, bridge) {
         return Ok(());
     }
     bridge.number = item.number + 1;
@@ -687,7 +723,7 @@ fn store_failed(alloc: Global, settings: &Settings, bridge: &mut Bridge) -> Resu
     ensures { OnOk result (bridge.new ≡ spec.store_failed settings.now bridge.old) }
 {
     bridge.is_storing = false;
-    rests(alloc, settings, bridge)
+    lanes_rest(alloc, settings, bridge)
 }
 
 /// Time goes by.
@@ -718,14 +754,14 @@ pub fn step(
         Event::Field { lane, frame } => frame_at(alloc, settings, *lane, m, frame, bridge),
         Event::Commands { frame } => down_frame(alloc, m, frame, bridge),
         Event::Broker { packet } => packet_in(alloc, settings, m, packet, bridge),
-        Event::BrokerOpen => opened(alloc, settings, m, bridge),
-        Event::BrokerLost => lost(alloc, settings, m.soon, bridge),
+        Event::BrokerOpen => connection_opened(alloc, settings, m, bridge),
+        Event::BrokerLost => connection_lost(alloc, settings, m.soon, bridge),
         Event::Kept { line } => kept(alloc, *line, m, bridge),
         Event::Resumed { number } => {
             counts_on(*number, bridge);
             Ok(())
         }
-        Event::Found { item } => found(alloc, settings, item, bridge),
+        Event::Found { item } => reading_found(alloc, settings, item, bridge),
         Event::Stored { below } => stored(alloc, settings, *below, bridge),
         Event::StoreFailed => store_failed(alloc, settings, bridge),
         Event::Tick => ticks(alloc, settings, m, bridge),

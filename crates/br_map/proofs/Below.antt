@@ -9,7 +9,7 @@ use Rattle.sn_topic.specs.Levels.{begins_with_wildcard, is_hash, is_plus, levels
 use Rattle.sn_topic.specs.Matching.{Matches, begins_with_dollar, level_agrees, levels_match, no_level}
 use Rattle.sn_topic.proofs.Rule.{is_match-Matches}
 use Rattle.br_map.specs.Apart.{ends_a_level}
-use Rattle.br_map.specs.Mapping.{has_any}
+use Rattle.br_map.specs.Mapping.{has_wildcard_octet}
 
 -- the levels of a prefix that ends one
 abbrev fronts : List ℕ → List (List ℕ)
@@ -56,7 +56,7 @@ match_below (level ∷ front) f given h =
     or_right (is_hash level && no_level (front ++ f)) (level_agrees level level && levels_match (front ++ f) (front ++ given)) (and_from (level_agrees level level) (levels_match (front ++ f) (front ++ given)) (agree_self level) (match_below front f given h))
 
 -- what is below a prefix begins as the prefix does
-no_wildcard : (octet : ℕ) (more : List ℕ) → has_any (octet ∷ more) ≡ false → ((octet == 43) || (octet == 35)) ≡ false
+no_wildcard : (octet : ℕ) (more : List ℕ) → has_wildcard_octet (octet ∷ more) ≡ false → ((octet == 43) || (octet == 35)) ≡ false
 no_wildcard octet more h =
     let both = or_parts (has_octet 43 (octet ∷ more)) (has_octet 35 (octet ∷ more)) h in
     let plus = or_parts (octet == 43) (has_octet 43 more) both.0 in
@@ -68,7 +68,7 @@ not_both true dollar h = cc
 not_both false dollar h = refl
 
 -- a filter below a prefix matches, below the prefix, what it matches
-pub below_matches : (prefix filter topic : List ℕ) → has_any prefix ≡ false → ends_a_level prefix ≡ true → Matches filter topic → Matches (prefix ++ filter) (prefix ++ topic)
+pub below_matches : (prefix filter topic : List ℕ) → has_wildcard_octet prefix ≡ false → ends_a_level prefix ≡ true → Matches filter topic → Matches (prefix ++ filter) (prefix ++ topic)
 below_matches [] filter topic h e m = m
 below_matches (octet ∷ more) filter topic h e m =
     let own = and_parts (not (begins_with_wildcard filter && begins_with_dollar topic)) (levels_match (levels filter) (levels topic)) ((is_match-Matches filter topic).1 m) in

@@ -7,7 +7,7 @@ use Rattle.std.proofs.lemmas.List.{append_cancel_left}
 use Rattle.std.proofs.lemmas.List.Folds.{list_any-append}
 use Rattle.std.proofs.lemmas.Str.{IsUtf8-append, IsUtf8-from_ascii}
 use Rattle.std.proofs.lemmas.Str.Ascii.{IsAscii-cons, IsAscii-nil}
-use Rattle.mq_packet.specs.Text.{IsTopic, has_octet, is_text}
+use Rattle.mq_packet.specs.Text.{IsTopicText, has_octet, is_text}
 use Rattle.mq_packet.proofs.Texts.{text_from}
 use Rattle.sn_topic.specs.Levels.{has_wildcard, is_wildcard}
 use Rattle.sn_topic.specs.Matching.{begins_with_dollar}
@@ -66,7 +66,7 @@ record IsRest (octets : List ℕ) : Type 0 where
   no_plus : has_octet 43 octets ≡ false
   no_hash : has_octet 35 octets ≡ false
 
-rest_topic : (prefix octets : List ℕ) → IsPrefix prefix → IsRest octets → IsTopic (prefix ++ octets)
+rest_topic : (prefix octets : List ℕ) → IsPrefix prefix → IsRest octets → IsTopicText (prefix ++ octets)
 rest_topic prefix octets p r =
     let text = text_from prefix p.1 in
     let none = or_parts (has_octet 43 prefix) (has_octet 35 prefix) p.2 in
@@ -99,7 +99,7 @@ name_rest false prefix name h is fits =
       no_hash = hex_none 35 name (omega arith);
     }
 
-pub topic_mapped : (prefix name : List ℕ) → IsPrefix prefix → IsName name → AreOctets name → IsTopic (broker_topic prefix name)
+pub topic_mapped : (prefix name : List ℕ) → IsPrefix prefix → IsName name → AreOctets name → IsTopicText (broker_topic prefix name)
 topic_mapped prefix name p is fits = rest_topic prefix (broker_name prefix name) p (name_rest (is_plain prefix name) prefix name refl is fits)
 
 -- digits are the same only of the same numbers

@@ -10,7 +10,7 @@ use Rattle.sn_topic.specs.Matching.{Matches, begins_with_dollar, level_agrees, l
 use Rattle.sn_topic.proofs.Agreement.{match_end, no_level-levels}
 use Rattle.sn_topic.proofs.Cuts.{levels_some}
 use Rattle.sn_topic.proofs.Rule.{is_match-Matches}
-use Rattle.br_map.specs.Apart.{dollar_apart, is_apart, levels_meet, overlap}
+use Rattle.br_map.specs.Apart.{dollar_apart, are_filters_apart, levels_meet, overlap}
 use Rattle.br_map.specs.inner.Ending.{last_overlaps}
 
 -- two levels of filters that agree with one level of a name meet
@@ -112,7 +112,7 @@ apart_by_dollar f g topic d m n =
     let parts = and_parts (begins_with_wildcard f) (begins_with_dollar g) d in
     m.1 (parts.0, dollar_of g topic parts.1 (levels_of g topic n))
 
-pub apart_rule : (f g : List ℕ) → is_apart f g ≡ true → (topic : List ℕ) → Matches f topic → Matches g topic → ⊥
+pub apart_rule : (f g : List ℕ) → are_filters_apart f g ≡ true → (topic : List ℕ) → Matches f topic → Matches g topic → ⊥
 apart_rule f g h topic m n =
     elim (or_cases (dollar_apart f g || dollar_apart g f) (not (overlap (levels f) (levels g))) h) as (λ _. ⊥) [
       | inl dollar ↦ elim (or_cases (dollar_apart f g) (dollar_apart g f) dollar) as (λ _. ⊥) [

@@ -22,8 +22,8 @@ abbrev pub dollar_apart : List ℕ → List ℕ → Bool
 dollar_apart first second = begins_with_wildcard first && begins_with_dollar second
 
 -- no topic can match both
-abbrev pub is_apart : List ℕ → List ℕ → Bool
-is_apart first second =
+abbrev pub are_filters_apart : List ℕ → List ℕ → Bool
+are_filters_apart first second =
     dollar_apart first second || dollar_apart second first
     || not (overlap (levels first) (levels second))
 
@@ -35,4 +35,5 @@ ends_a_level (octet ∷ next ∷ more) = ends_a_level (next ∷ more)
 
 -- no topic that a filter matches can match the other one when it is put below the prefix
 abbrev pub is_apart_below : List ℕ → List ℕ → List ℕ → Bool
-is_apart_below prefix filter other = ends_a_level prefix && is_apart (prefix ++ filter) other
+is_apart_below prefix filter other =
+    ends_a_level prefix && are_filters_apart (prefix ++ filter) other

@@ -7,25 +7,25 @@ use Rattle.mq_packet.specs.Text.{has_octet, is_text}
 use Rattle.sn_topic.specs.Matching.{begins_with_dollar}
 
 -- whether `+` (43) or `#` (35) is there
-abbrev pub has_any : List ℕ → Bool
-has_any octets = has_octet 43 octets || has_octet 35 octets
+abbrev pub has_wildcard_octet : List ℕ → Bool
+has_wildcard_octet octets = has_octet 43 octets || has_octet 35 octets
 
 -- the begin of a broker's topics
 abbrev pub IsPrefix : List ℕ → Type 0
 IsPrefix octets =
-    (length octets ≤ MAX_PREFIX) × IsTrue (is_text octets) × IsFalse (has_any octets)
+    (length octets ≤ MAX_PREFIX) × IsTrue (is_text octets) × IsFalse (has_wildcard_octet octets)
     × IsFalse (begins_with_dollar octets)
 
 -- why octets are none: the first of these
-abbrev pub IsFault : List ℕ → PrefixFault → Type 0
-IsFault octets faults.TooLong = MAX_PREFIX < length octets
-IsFault octets faults.Text = (length octets ≤ MAX_PREFIX) × IsFalse (is_text octets)
-IsFault octets faults.Wildcard =
-    (length octets ≤ MAX_PREFIX) × IsTrue (is_text octets) × IsTrue (has_any octets)
-IsFault octets faults.Dollar =
-    (length octets ≤ MAX_PREFIX) × IsTrue (is_text octets) × IsFalse (has_any octets)
+abbrev pub IsPrefixFault : List ℕ → PrefixFault → Type 0
+IsPrefixFault octets faults.TooLong = MAX_PREFIX < length octets
+IsPrefixFault octets faults.Text = (length octets ≤ MAX_PREFIX) × IsFalse (is_text octets)
+IsPrefixFault octets faults.Wildcard =
+    (length octets ≤ MAX_PREFIX) × IsTrue (is_text octets) × IsTrue (has_wildcard_octet octets)
+IsPrefixFault octets faults.Dollar =
+    (length octets ≤ MAX_PREFIX) × IsTrue (is_text octets) × IsFalse (has_wildcard_octet octets)
     × IsTrue (begins_with_dollar octets)
-IsFault octets faults.Memory = IsPrefix octets
+IsPrefixFault octets faults.Memory = IsPrefix octets
 
 -- a hexadecimal digit: `0` is 48, `a` is 97
 abbrev pub digit : ℕ → ℕ

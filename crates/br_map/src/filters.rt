@@ -2,7 +2,7 @@
 
 ghost use Rattle.std.specs.Prelude.{◌≡◌, ℕ, List, ◌++◌, IfOk, IsTrue};
 ghost use Rattle.std.specs.Option.{option_copied};
-ghost use Rattle.br_map.specs.Apart.{is_apart};
+ghost use Rattle.br_map.specs.Apart.{are_filters_apart};
 ghost use Rattle.br_map.specs.Apart as spec;
 ghost use Rattle.br_map.specs.inner.Ending as ending;
 ghost use Rattle.sn_topic.specs.Levels.{levels};
@@ -19,7 +19,7 @@ use std::alloc::Global;
 pub fn apart(first: &[u8], second: &[u8]) -> bool
     ensures rule { IsTrue result → (topic : List ℕ) → Matches first.now topic
         → Matches second.now topic → ⊥ }
-    ensures value { result ≡ is_apart first.now second.now }
+    ensures value { result ≡ are_filters_apart first.now second.now }
 {
     dollar_apart(first, second) || dollar_apart(second, first) || !overlap(first, second)
 }

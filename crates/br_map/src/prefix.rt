@@ -39,7 +39,7 @@ impl Prefix {
     /// The prefix of these octets. The faults are tried in the order of the clauses.
     pub fn new(alloc: Global, octets: &[u8]) -> Result<Prefix, PrefixFault>
         ensures ok { IfOk result (λ prefix. (prefix ≡ octets.now) × IsPrefix octets.now) }
-        ensures err { IfErr result (λ fault. spec.IsFault octets.now fault) }
+        ensures err { IfErr result (λ fault. spec.IsPrefixFault octets.now fault) }
     {
         if octets.len() > MAX_PREFIX {
             return Err(PrefixFault::TooLong);

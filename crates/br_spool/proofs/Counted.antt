@@ -20,14 +20,14 @@ use Rattle.rep_model.proofs.Lookup.{is_entry_of, is_some-find_map}
 use Rattle.rep_model.proofs.Occurring.{put_occurs}
 use Rattle.rep_model.proofs.Readers.{is_acknowledged_keep, put_total, same_client-true}
 use Rattle.br_spool.specs.declared.place.TheConstants.{LAST_SEQ, QUEUES, SPOOL}
-use Rattle.br_spool.specs.Finding.{above, above_all, above_at, next_in, number_at, number_in, SpeaksOf}
-use Rattle.br_spool.specs.Places.{is_place, number_of, queue_in}
+use Rattle.br_spool.specs.Finding.{above, above_all, above_at, next_in, number_if_own, last_number_in, SpeaksOf}
+use Rattle.br_spool.specs.Places.{is_place, number_at_place, queue_in}
 use Rattle.br_spool.specs.Places as places
 use Rattle.br_spool.proofs.Found.{found-again}
 
 -- ---- places of a queue and their numbers rise together
 
-rises : (queue s t : ℕ) → s ≤ t → places.number_at queue s ≤ places.number_at queue t
+rises : (queue s t : ℕ) → s ≤ t → places.place_number queue s ≤ places.place_number queue t
 rises queue s t h = omega arith
 
 bounded : (queue s t : ℕ) → is_place queue s ≡ true → s ≤ t → t ≤ LAST_SEQ → is_place queue t ≡ true
@@ -38,31 +38,31 @@ bounded queue s t e h last =
     let later : 1 ≤ t = omega arith in
     and_from (nat_lt queue QUEUES && nat_le 1 t) (nat_le t LAST_SEQ) (and_from (nat_lt queue QUEUES) (nat_le 1 t) front.0 (le-leb 1 t later)) (le-leb t LAST_SEQ last)
 
-placed-below : (queue seq last number : ℕ) → seq ≤ last → number_of queue seq ≡ Some number → (most : ℕ) × (number_of queue (min last LAST_SEQ) ≡ Some most) × (number ≤ most)
+placed-below : (queue seq last number : ℕ) → seq ≤ last → number_at_place queue seq ≡ Some number → (most : ℕ) × (number_at_place queue (min last LAST_SEQ) ≡ Some most) × (number ≤ most)
 placed-below queue seq last number h e =
     let top : ℕ = min last LAST_SEQ in
-    elim (is_place queue seq) as (λ b. is_place queue seq ≡ b → (if b then Some (places.number_at queue seq) else None) ≡ Some number → (most : ℕ) × (number_of queue top ≡ Some most) × (number ≤ most)) [
+    elim (is_place queue seq) as (λ b. is_place queue seq ≡ b → (if b then Some (places.place_number queue seq) else None) ≡ Some number → (most : ℕ) × (number_at_place queue top ≡ Some most) × (number ≤ most)) [
       | true ↦ λ there is.
           let parts = and_parts (nat_lt queue QUEUES && nat_le 1 seq) (nat_le seq LAST_SEQ) there in
           let below : seq ≤ top = le-min h (leb-true seq LAST_SEQ parts.1) in
           let place : is_place queue top ≡ true = bounded queue seq top there below (min-le_right last LAST_SEQ) in
-          let same : places.number_at queue seq ≡ number = cc in
-          let order : places.number_at queue seq ≤ places.number_at queue top = rises queue seq top below in
-          (places.number_at queue top, ap (λ b. if b then Some (places.number_at queue top) else None) place, subst (λ n. n ≤ places.number_at queue top) same order)
+          let same : places.place_number queue seq ≡ number = cc in
+          let order : places.place_number queue seq ≤ places.place_number queue top = rises queue seq top below in
+          (places.place_number queue top, ap (λ b. if b then Some (places.place_number queue top) else None) place, subst (λ n. n ≤ places.place_number queue top) same order)
       | false ↦ λ there is. absurd (cc)
     ] refl e
 
-reached : (queue : Option ℕ) (origin seq last number : ℕ) → seq ≤ last → number_at queue origin seq ≡ Some number → (most : ℕ) × (number_at queue origin (min last LAST_SEQ) ≡ Some most) × (number ≤ most)
+reached : (queue : Option ℕ) (origin seq last number : ℕ) → seq ≤ last → number_if_own queue origin seq ≡ Some number → (most : ℕ) × (number_if_own queue origin (min last LAST_SEQ) ≡ Some most) × (number ≤ most)
 reached None origin seq last number h e = absurd (cc)
 reached (Some queue) origin seq last number h e =
-    elim (origin == SPOOL) as (λ b. (if b then number_of queue seq else None) ≡ Some number → (most : ℕ) × ((if b then number_of queue (min last LAST_SEQ) else None) ≡ Some most) × (number ≤ most)) [
+    elim (origin == SPOOL) as (λ b. (if b then number_at_place queue seq else None) ≡ Some number → (most : ℕ) × ((if b then number_at_place queue (min last LAST_SEQ) else None) ≡ Some most) × (number ≤ most)) [
       | true ↦ λ is. placed-below queue seq last number h is
       | false ↦ λ is. absurd (cc)
     ] e
 
 -- ---- the next number of deltas
 
-spoken : (op : Op) (number : ℕ) → SpeaksOf op number → (most : ℕ) × (number_in op ≡ Some most) × (number ≤ most)
+spoken : (op : Op) (number : ℕ) → SpeaksOf op number → (most : ℕ) × (last_number_in op ≡ Some most) × (number ≤ most)
 spoken (ops.Session client stamp counter change) number h = absurd h
 spoken (ops.Put client put) number h = (number, h, omega arith)
 spoken (ops.Ack client origin first last) number h = reached (queue_in client) origin h.0 last number h.2 h.3
@@ -82,7 +82,7 @@ at-keeps next (Some number) = omega arith
 all-keeps : (next : ℕ) (ops : List Op) → next ≤ fold above next ops
 all-keeps next [] = omega arith
 all-keeps next (op ∷ ops) =
-    let one : next ≤ above next op = at-keeps next (number_in op) in
+    let one : next ≤ above next op = at-keeps next (last_number_in op) in
     let rest : above next op ≤ fold above (above next op) ops = all-keeps (above next op) ops in
     omega arith
 
@@ -103,15 +103,15 @@ counts-above deltas op number there h = subst (λ n. number < n) (sym (one-fold 
 
 -- ---- and of all that was taken
 
-acknowledging : (client : List ℕ) (seq origin number : ℕ) (op : Op) → acknowledges client (seq, origin) op ≡ true → number_at (queue_in client) origin seq ≡ Some number → SpeaksOf op number
+acknowledging : (client : List ℕ) (seq origin number : ℕ) (op : Op) → acknowledges client (seq, origin) op ≡ true → number_if_own (queue_in client) origin seq ≡ Some number → SpeaksOf op number
 acknowledging client seq origin number (ops.Session c stamp counter change) e is = absurd (cc)
 acknowledging client seq origin number (ops.Put c put) e is = absurd (cc)
 acknowledging client seq origin number (ops.Ack c o first last) e is =
     let high = and_parts (same_client client c && (origin == o) && nat_le first seq) (nat_le seq last) e in
     let low = and_parts (same_client client c && (origin == o)) (nat_le first seq) high.0 in
     let whose = and_parts (same_client client c) (origin == o) low.0 in
-    let moved : number_at (queue_in c) origin seq ≡ Some number = subst (λ (d : List ℕ). number_at (queue_in d) origin seq ≡ Some number) (same_client-true client c whose.0) is in
-    (seq, leb-true first seq low.1, leb-true seq last high.1, subst (λ n. number_at (queue_in c) n seq ≡ Some number) (eqb-true origin o whose.1) moved)
+    let moved : number_if_own (queue_in c) origin seq ≡ Some number = subst (λ (d : List ℕ). number_if_own (queue_in d) origin seq ≡ Some number) (same_client-true client c whose.0) is in
+    (seq, leb-true first seq low.1, leb-true seq last high.1, subst (λ n. number_if_own (queue_in c) n seq ≡ Some number) (eqb-true origin o whose.1) moved)
 acknowledging client seq origin number (ops.Retain topic kept) e is = absurd (cc)
 
 -- what a list puts and acknowledges, its readers find
@@ -140,19 +140,19 @@ module _ (taken kept : List Op) (deltas : List (List Op)) (counts : CountsAs tak
       let counted : is_acknowledged client (keep kept) name ≡ is_acknowledged client (keep taken) name = counts.acknowledgements_same client name in
       whole ∙ same ∙ counted ∙ is_acknowledged_keep client taken name ∙ e
 
-  by-ack : (client : List ℕ) (seq origin number : ℕ) → is_acknowledged client taken (seq, origin) ≡ true → number_at (queue_in client) origin seq ≡ Some number → number < next_in deltas
+  by-ack : (client : List ℕ) (seq origin number : ℕ) → is_acknowledged client taken (seq, origin) ≡ true → number_if_own (queue_in client) origin seq ≡ Some number → number < next_in deltas
   by-ack client seq origin number e is =
       let found = Any-from_list_any (acknowledges client (seq, origin)) (all_of deltas) (acks-stay client (seq, origin) e) in
       counts-above deltas found.1 number (found.0, found.2, found.3) (acknowledging client seq origin number found.1 found.4 is)
 
-  by-put : (client : List ℕ) (seq origin number : ℕ) (put : Put) → put_at client taken (seq, origin) ≡ Some put → is_acknowledged client taken (seq, origin) ≡ false → number_at (queue_in client) origin seq ≡ Some number → number < next_in deltas
+  by-put : (client : List ℕ) (seq origin number : ℕ) (put : Put) → put_at client taken (seq, origin) ≡ Some put → is_acknowledged client taken (seq, origin) ≡ false → number_if_own (queue_in client) origin seq ≡ Some number → number < next_in deltas
   by-put client seq origin number put e open_is is =
       let there : put_at client (all_of deltas) (seq, origin) ≡ Some put = found-again taken kept deltas counts held client seq origin put e open_is in
       let occurs = put_occurs client (all_of deltas) (seq, origin) put there in
-      let speaks : SpeaksOf (ops.Put client put) number = subst (λ (name : ℕ × ℕ). number_at (queue_in client) name.1 name.0 ≡ Some number) (sym occurs.1) is in
+      let speaks : SpeaksOf (ops.Put client put) number = subst (λ (name : ℕ × ℕ). number_if_own (queue_in client) name.1 name.0 ≡ Some number) (sym occurs.1) is in
       counts-above deltas (ops.Put client put) number occurs.0 speaks
 
-  by-some : (client : List ℕ) (seq origin number : ℕ) (found : Option Put) → put_at client taken (seq, origin) ≡ found → is_some found ≡ true → is_acknowledged client taken (seq, origin) ≡ false → number_at (queue_in client) origin seq ≡ Some number → number < next_in deltas
+  by-some : (client : List ℕ) (seq origin number : ℕ) (found : Option Put) → put_at client taken (seq, origin) ≡ found → is_some found ≡ true → is_acknowledged client taken (seq, origin) ≡ false → number_if_own (queue_in client) origin seq ≡ Some number → number < next_in deltas
   by-some client seq origin number None e there open_is is = absurd (cc)
   by-some client seq origin number (Some put) e there open_is is = by-put client seq origin number put e open_is is
 

@@ -8,12 +8,12 @@ use Rattle.rep_op.specs.declared.op.Put.{Put}
 use Rattle.rep_ops.specs.Splitting.{all_of}
 use Rattle.br_core.specs.declared.item.Item.{Item}
 use Rattle.br_spool.specs.declared.place.TheConstants.{LAST_SEQ, SPOOL}
-use Rattle.br_spool.specs.Places.{number_of, queue_in}
+use Rattle.br_spool.specs.Places.{number_at_place, queue_in}
 
 -- the number of a place of a queue of this origin
-abbrev pub number_at : Option ℕ → ℕ → ℕ → Option ℕ
-number_at None origin seq = None
-number_at (Some queue) origin seq = if origin == SPOOL then number_of queue seq else None
+abbrev pub number_if_own : Option ℕ → ℕ → ℕ → Option ℕ
+number_if_own None origin seq = None
+number_if_own (Some queue) origin seq = if origin == SPOOL then number_at_place queue seq else None
 
 -- the reading that a message is; of which lane it came nobody knows any longer
 abbrev pub item_at : Option ℕ → Put → Option Item
@@ -28,32 +28,32 @@ item_at (Some number) put =
       body = put.body;
     })
 
-abbrev pub item_of : Op → Option Item
-item_of (ops.Put client put) = item_at (number_at (queue_in client) put.origin put.seq) put
-item_of op = None
+abbrev pub item_in : Op → Option Item
+item_in (ops.Put client put) = item_at (number_if_own (queue_in client) put.origin put.seq) put
+item_in op = None
 
 abbrev pub one_if : Option Item → List Item
 one_if None = []
 one_if (Some item) = item ∷ []
 
 abbrev pub read : Op → List Item
-read op = one_if (item_of op)
+read op = one_if (item_in op)
 
 -- An operation speaks of a number if it puts the reading of this number, or acknowledges its place.
 abbrev pub SpeaksOf : Op → ℕ → Type 0
 SpeaksOf (ops.Put client put) number =
-    number_at (queue_in client) put.origin put.seq ≡ Some number
+    number_if_own (queue_in client) put.origin put.seq ≡ Some number
 SpeaksOf (ops.Ack client origin first last) number =
     (seq : ℕ) × (first ≤ seq) × (seq ≤ last)
-    × (number_at (queue_in client) origin seq ≡ Some number)
+    × (number_if_own (queue_in client) origin seq ≡ Some number)
 SpeaksOf op number = ⊥
 
 -- the greatest number that an operation can speak of; places after the last one have none
-abbrev pub number_in : Op → Option ℕ
-number_in (ops.Put client put) = number_at (queue_in client) put.origin put.seq
-number_in (ops.Ack client origin first last) =
-    number_at (queue_in client) origin (min last LAST_SEQ)
-number_in op = None
+abbrev pub last_number_in : Op → Option ℕ
+last_number_in (ops.Put client put) = number_if_own (queue_in client) put.origin put.seq
+last_number_in (ops.Ack client origin first last) =
+    number_if_own (queue_in client) origin (min last LAST_SEQ)
+last_number_in op = None
 
 -- a number above that one, and above another
 abbrev pub above_at : ℕ → Option ℕ → ℕ
@@ -61,7 +61,7 @@ above_at next None = next
 above_at next (Some number) = max next (number + 1)
 
 abbrev pub above : ℕ → Op → ℕ
-above next op = above_at next (number_in op)
+above next op = above_at next (last_number_in op)
 
 abbrev pub above_all : ℕ → List Op → ℕ
 above_all next delta = fold above next delta

@@ -6,23 +6,23 @@ use Rattle.br_spool.specs.declared.place.TheConstants.{LAST_SEQ, QUEUES, TURN}
 abbrev pub queue_of : ℕ → ℕ
 queue_of number = number / TURN % QUEUES
 
-abbrev pub seq_of : ℕ → ℕ
-seq_of number = number / TURN / QUEUES * TURN + number % TURN + 1
+abbrev pub number_seq : ℕ → ℕ
+number_seq number = number / TURN / QUEUES * TURN + number % TURN + 1
 
 -- which reading is at a place of a queue, if there is such a place
-abbrev pub number_at : ℕ → ℕ → ℕ
-number_at queue seq = ((seq - 1) / TURN * QUEUES + queue) * TURN + (seq - 1) % TURN
+abbrev pub place_number : ℕ → ℕ → ℕ
+place_number queue seq = ((seq - 1) / TURN * QUEUES + queue) * TURN + (seq - 1) % TURN
 
 abbrev pub is_place : ℕ → ℕ → Bool
 is_place queue seq = nat_lt queue QUEUES && nat_le 1 seq && nat_le seq LAST_SEQ
 
-abbrev pub number_of : ℕ → ℕ → Option ℕ
-number_of queue seq =
-    if is_place queue seq then Some (number_at queue seq) else None
+abbrev pub number_at_place : ℕ → ℕ → Option ℕ
+number_at_place queue seq =
+    if is_place queue seq then Some (place_number queue seq) else None
 
 -- the client of a queue: `q` (113) and two digits (from 48 on)
-abbrev pub client_of : ℕ → List ℕ
-client_of queue = 113 ∷ (48 + queue / 10) ∷ (48 + queue % 10) ∷ []
+abbrev pub queue_client : ℕ → List ℕ
+queue_client queue = 113 ∷ (48 + queue / 10) ∷ (48 + queue % 10) ∷ []
 
 -- and the queue of a client
 abbrev pub queue_by : ℕ → ℕ → Option ℕ
@@ -34,8 +34,5 @@ abbrev pub queue_at : Bool → ℕ → ℕ → Option ℕ
 queue_at is_ours tens ones = if is_ours then queue_by tens ones else None
 
 abbrev pub queue_in : List ℕ → Option ℕ
-queue_in [] = None
-queue_in (letter ∷ []) = None
-queue_in (letter ∷ tens ∷ []) = None
 queue_in (letter ∷ tens ∷ ones ∷ []) = queue_at (letter == 113) tens ones
-queue_in (letter ∷ tens ∷ ones ∷ next ∷ more) = None
+queue_in octets = None

@@ -10,22 +10,22 @@ ghost use Rattle.rep_model.specs.Held.{IsHeld};
 ghost use Rattle.rep_model.specs.Keep.{CountsAs};
 ghost use Rattle.br_core.specs.declared.item.Item.{Item};
 ghost use Rattle.br_spool.specs.declared.place.TheConstants.{LAST_SEQ, QUEUES};
-ghost use Rattle.br_spool.specs.Finding.{item_of, next_in, SpeaksOf};
-ghost use Rattle.br_spool.specs.Messages.{put_of};
-ghost use Rattle.br_spool.specs.Places.{number_of, queue_of, seq_of};
+ghost use Rattle.br_spool.specs.Finding.{item_in, next_in, SpeaksOf};
+ghost use Rattle.br_spool.specs.Messages.{item_put};
+ghost use Rattle.br_spool.specs.Places.{number_at_place, queue_of, number_seq};
 
 /// A reading has one place, at which no other reading is. The function does nothing; its contract
 /// is the law.
 pub fn one_place()
     ensures { (number : ℕ) → number < LAST_SEQ * QUEUES
-        → number_of (queue_of number) (seq_of number) ≡ Some number }
+        → number_at_place (queue_of number) (number_seq number) ≡ Some number }
 {}
 
 /// The message that a reading becomes is this reading again, but for the lane that brought it. The
 /// function does nothing; its contract is the law.
 pub fn one_reading()
     ensures { (item : Item) → item.number < LAST_SEQ * QUEUES
-        → item_of (put_of item) ≡ Some (record item { lane = 0; qos = levels.One }) }
+        → item_in (item_put item) ≡ Some (record item { lane = 0; qos = levels.One }) }
 {}
 
 /// What a gateway has taken and nobody has acknowledged is among what it holds, however its set was

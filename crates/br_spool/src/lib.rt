@@ -22,6 +22,6 @@ mod writing;
 
 pub use fault::SpoolFault;
 pub use laws::{counts_above, found_again, never_again, one_place, one_reading};
-pub use place::{LAST_SEQ, MAX_ROOM, QUEUES, SPOOL, TURN, number_of, queue_of, seq_of};
+pub use place::{LAST_SEQ, MAX_ROOM, QUEUES, SPOOL, TURN, number_at_place, number_seq, queue_of};
 pub use reading::{Held, held_in};
 pub use writing::delta_of;

@@ -32,8 +32,8 @@ pub fn queue_of(number: u64) -> u8
 }
 
 /// Its place in the queue, from 1.
-pub fn seq_of(number: u64) -> u64
-    ensures { result ≡ spec.seq_of number }
+pub fn number_seq(number: u64) -> u64
+    ensures { result ≡ spec.number_seq number }
 {
     number / TURN / QUEUES * TURN + number % TURN + 1
 }
@@ -46,29 +46,29 @@ fn is_place(queue: u8, seq: u64) -> bool
 }
 
 /// The number of the reading at a place that there is.
-fn number_at(queue: u8, seq: u64) -> u64
+fn place_number(queue: u8, seq: u64) -> u64
     requires { spec.is_place queue seq ≡ true }
-    ensures { result ≡ spec.number_at queue seq }
+    ensures { result ≡ spec.place_number queue seq }
 {
     let before = seq - 1;
     (before / TURN * QUEUES + u64::from(queue)) * TURN + before % TURN
 }
 
 /// The number of the reading at a place of a queue, if there is such a place.
-pub fn number_of(queue: u8, seq: u64) -> Option<u64>
-    ensures { result ≡ spec.number_of queue seq }
+pub fn number_at_place(queue: u8, seq: u64) -> Option<u64>
+    ensures { result ≡ spec.number_at_place queue seq }
 {
     if is_place(queue, seq) {
-        Some(number_at(queue, seq))
+        Some(place_number(queue, seq))
     } else {
         None
     }
 }
 
 /// The client whose messages are the readings of a queue: `q00` to `q63`.
-pub(crate) fn client_of(alloc: Global, queue: u8) -> Result<ClientId, NoMemory>
+pub(crate) fn queue_client(alloc: Global, queue: u8) -> Result<ClientId, NoMemory>
     requires { queue < 64 }
-    ensures { IfOk result (λ client. client ≡ spec.client_of queue) }
+    ensures { IfOk result (λ client. client ≡ spec.queue_client queue) }
 {
     match ClientId::new(alloc, &[b'q', b'0' + queue / 10, b'0' + queue % 10]) {
         Ok(client) => Ok(client),

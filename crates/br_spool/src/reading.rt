@@ -7,7 +7,7 @@ ghost use Rattle.std.specs.Ordering.{is_lt, nat_cmp};
 ghost use Rattle.br_spool.specs.Finding as spec;
 ghost use Rattle.br_spool.specs.Places as places;
 
-use crate::place::{LAST_SEQ, SPOOL, number_of, queue_in};
+use crate::place::{LAST_SEQ, SPOOL, number_at_place, queue_in};
 use br_core::Item;
 use mq_packet::Qos;
 use octets::{NoMemory, Octets};
@@ -25,31 +25,31 @@ pub struct Held {
 }
 
 /// The number of a place of a client's messages of this origin.
-fn number_at(client: &ClientId, origin: u8, seq: u64) -> Option<u64>
-    ensures { result ≡ spec.number_at (places.queue_in client.now) origin seq }
+fn number_if_own(client: &ClientId, origin: u8, seq: u64) -> Option<u64>
+    ensures { result ≡ spec.number_if_own (places.queue_in client.now) origin seq }
 {
     let Some(queue) = queue_in(client.bytes()) else {
         return None;
     };
     if origin == SPOOL {
-        number_of(queue, seq)
+        number_at_place(queue, seq)
     } else {
         None
     }
 }
 
 /// The greatest number that an operation can speak of.
-fn number_in(op: &Op) -> Option<u64>
-    ensures { result ≡ spec.number_in op.now }
+fn last_number_in(op: &Op) -> Option<u64>
+    ensures { result ≡ spec.last_number_in op.now }
 {
     match op {
-        Op::Put { client, put } => number_at(client, put.origin, put.seq),
+        Op::Put { client, put } => number_if_own(client, put.origin, put.seq),
         Op::Ack {
             client,
             origin,
             last,
             ..
-        } => number_at(client, *origin, (*last).min(LAST_SEQ)),
+        } => number_if_own(client, *origin, (*last).min(LAST_SEQ)),
         Op::Session { .. } | Op::Retain { .. } => None,
     }
 }
@@ -70,12 +70,12 @@ fn item_of(alloc: Global, number: u64, put: &Put) -> Result<Item, NoMemory>
 
 /// The reading that an operation puts into the journal, if it is one.
 fn item_in(alloc: Global, op: &Op) -> Result<Option<Item>, NoMemory>
-    ensures { IfOk result (λ found. found ≡ spec.item_of op.now) }
+    ensures { IfOk result (λ found. found ≡ spec.item_in op.now) }
 {
     let Op::Put { client, put } = op else {
         return Ok(None);
     };
-    match number_at(client, put.origin, put.seq) {
+    match number_if_own(client, put.origin, put.seq) {
         None => Ok(None),
         Some(number) => Ok(Some(item_of(alloc, number, put)?)),
     }
@@ -108,7 +108,7 @@ fn read_into(alloc: Global, ops: &[Op], items: &mut Vec<Item>) -> Result<(), NoM
 fn above(next: u64, op: &Op) -> u64
     ensures { result ≡ spec.above next op.now }
 {
-    match number_in(op) {
+    match last_number_in(op) {
         None => next,
         Some(number) => next.max(number + 1),
     }

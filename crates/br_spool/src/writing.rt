@@ -5,7 +5,7 @@ ghost use Rattle.rep_ops.specs.Making.{IsDeltaOf};
 ghost use Rattle.br_spool.specs.Messages as spec;
 
 use crate::fault::SpoolFault;
-use crate::place::{SPOOL, client_of, queue_of, seq_of};
+use crate::place::{SPOOL, number_seq, queue_client, queue_of};
 use br_core::Item;
 use rep_op::{Op, OpsFault, Put};
 use rep_ops::Delta;
@@ -26,15 +26,15 @@ fn topic_of(alloc: Global, topic: &[u8]) -> Result<TopicName, SpoolFault>
 }
 
 /// The message that a reading is.
-fn message_of(alloc: Global, item: &Item) -> Result<Put, SpoolFault>
-    ensures { IfOk result (λ put. put ≡ spec.message_of item.now) }
+fn item_message(alloc: Global, item: &Item) -> Result<Put, SpoolFault>
+    ensures { IfOk result (λ put. put ≡ spec.item_message item.now) }
 {
     let Some(body) = Message::new(item.body.copied(alloc)?) else {
         return Err(SpoolFault::Reading);
     };
     Ok(Put {
         origin: SPOOL,
-        seq: seq_of(item.number),
+        seq: number_seq(item.number),
         topic: topic_of(alloc, item.topic.as_slice())?,
         qos: QosLevel::one(),
         retain: item.retain,
@@ -44,21 +44,21 @@ fn message_of(alloc: Global, item: &Item) -> Result<Put, SpoolFault>
 }
 
 /// The operation that puts a reading into the journal.
-fn put_of(alloc: Global, item: &Item) -> Result<Op, SpoolFault>
-    ensures { IfOk result (λ op. op ≡ spec.put_of item.now) }
+fn item_put(alloc: Global, item: &Item) -> Result<Op, SpoolFault>
+    ensures { IfOk result (λ op. op ≡ spec.item_put item.now) }
 {
-    let put = message_of(alloc, item)?;
-    let client = client_of(alloc, queue_of(item.number))?;
+    let put = item_message(alloc, item)?;
+    let client = queue_client(alloc, queue_of(item.number))?;
     Ok(Op::Put { client, put })
 }
 
 /// The operation that acknowledges the reading of a number.
-fn ack_of(alloc: Global, number: u64) -> Result<Op, SpoolFault>
-    ensures { IfOk result (λ op. op ≡ spec.ack_of number) }
+fn number_ack(alloc: Global, number: u64) -> Result<Op, SpoolFault>
+    ensures { IfOk result (λ op. op ≡ spec.number_ack number) }
 {
-    let seq = seq_of(number);
+    let seq = number_seq(number);
     Ok(Op::Ack {
-        client: client_of(alloc, queue_of(number))?,
+        client: queue_client(alloc, queue_of(number))?,
         origin: SPOOL,
         first: seq,
         last: seq,
@@ -67,27 +67,27 @@ fn ack_of(alloc: Global, number: u64) -> Result<Op, SpoolFault>
 
 /// Appends readings as messages.
 fn put_all(alloc: Global, items: &[Item], ops: &mut Vec<Op>) -> Result<(), SpoolFault>
-    ensures { OnOk result (ops.new.items ≡ ops.old.items ++ map spec.put_of items.now) }
+    ensures { OnOk result (ops.new.items ≡ ops.old.items ++ map spec.item_put items.now) }
 {
     for item in items {
-        ops.push(put_of(alloc, item)?)?;
+        ops.push(item_put(alloc, item)?)?;
     }
     Ok(())
 }
 
 /// Appends acknowledgements of readings.
 fn ack_all(alloc: Global, numbers: &[u64], ops: &mut Vec<Op>) -> Result<(), SpoolFault>
-    ensures { OnOk result (ops.new.items ≡ ops.old.items ++ map spec.ack_of numbers.now) }
+    ensures { OnOk result (ops.new.items ≡ ops.old.items ++ map spec.number_ack numbers.now) }
 {
     for number in numbers {
-        ops.push(ack_of(alloc, *number)?)?;
+        ops.push(number_ack(alloc, *number)?)?;
     }
     Ok(())
 }
 
 /// Whether a reading of this number is among these.
-fn is_among(number: u64, items: &[Item]) -> bool
-    ensures { result ≡ spec.is_among number items.now }
+fn is_item_among(number: u64, items: &[Item]) -> bool
+    ensures { result ≡ spec.is_item_among number items.now }
 {
     items.iter().any(|item| item.number == number)
 }
@@ -100,12 +100,12 @@ fn ack_other(
     ops: &mut Vec<Op>,
 ) -> Result<(), SpoolFault>
     ensures { OnOk result (ops.new.items ≡ ops.old.items
-        ++ map spec.ack_of (spec.other number items.now)) }
+        ++ map spec.number_ack (spec.other_number number items.now)) }
 {
-    if is_among(number, items) {
+    if is_item_among(number, items) {
         return Ok(());
     }
-    ops.push(ack_of(alloc, number)?)?;
+    ops.push(number_ack(alloc, number)?)?;
     Ok(())
 }
 
@@ -118,7 +118,7 @@ fn ack_others(
     ops: &mut Vec<Op>,
 ) -> Result<(), SpoolFault>
     ensures { OnOk result (ops.new.items ≡ ops.old.items
-        ++ map spec.ack_of (spec.others_from from (below - from) items.now)) }
+        ++ map spec.number_ack (spec.others_from from (below - from) items.now)) }
 {
     for number in from..below {
         ack_other(alloc, number, items, ops)?;
@@ -140,7 +140,7 @@ pub fn delta_of(
     numbers: &[u64],
 ) -> Result<Delta, SpoolFault>
     ensures { IfOk result (λ delta. IsDeltaOf
-        (spec.ops_of from below items.now numbers.now) delta) }
+        (spec.spool_ops from below items.now numbers.now) delta) }
 {
     let mut ops = Vec::new(alloc);
     put_all(alloc, items, &mut ops)?;

@@ -79,7 +79,7 @@ use mq_packet::Packet;
 use std::io;
 
 /// Plays rows, and writes what that prints, unless memory runs out.
-pub(crate) fn play_rows<T: Print + AllocGlobal>(rt: &T, lines: &[String]) -> io::Result<()> {
+pub(crate) fn play_rows(rt: &HostRuntime, lines: &[String]) -> io::Result<()> {
     let mut page = Page::new(rt.alloc());
     play_lines(&mut page, lines);
     let written = sets::write(rt, &page);

@@ -13,7 +13,6 @@ mod bridge;
 mod refusals;
 mod sets;
 
-use std::fs::{File, Files};
 use std::io::{self, ErrorKind, Input};
 use std::process::ExitCode;
 use std::sync::Wait;
@@ -27,7 +26,7 @@ const HEADING: &str = "=== ";
 const BRIDGES: &str = "=== bridges";
 
 fn main(rt: HostRuntime) -> ExitCode {
-    match play_input(&rt) {
+    match play_input(&rt, &rt) {
         Ok(()) => ExitCode::SUCCESS,
         Err(error) => {
             let _ = eprintln!(&rt; "call_rows: {error}");
@@ -37,22 +36,19 @@ fn main(rt: HostRuntime) -> ExitCode {
 }
 
 /// Plays standard input.
-fn play_input<T>(rt: &T) -> io::Result<()>
+fn play_input<T>(rt: &T, host: &HostRuntime) -> io::Result<()>
 where
-    T: Threads + Wait + Sync + Clock + Files<File = File> + Input + Print + Eprint + AllocGlobal,
+    T: Threads + Wait + Sync + Clock,
 {
-    let mut rows = Vec::new(rt.alloc());
-    let read = read_lines(rt, &mut rows);
-    let played = play_rows(rt, read, &rows);
+    let mut rows = Vec::new(host.alloc());
+    let read = read_lines(rt, host, &mut rows);
+    let played = play_rows(host, read, &rows);
     drop(rows);
     played
 }
 
 /// Plays the rows, if all lines were read.
-fn play_rows<T>(rt: &T, read: io::Result<()>, rows: &[String]) -> io::Result<()>
-where
-    T: Print + AllocGlobal,
-{
+fn play_rows(rt: &HostRuntime, read: io::Result<()>, rows: &[String]) -> io::Result<()> {
     if read.is_err() {
         read
     } else {
@@ -62,10 +58,7 @@ where
 }
 
 /// Plays the rows in front of the heading of bridges on both replicas, and those after it once.
-fn play_parts<T>(rt: &T, rows: &[String]) -> io::Result<()>
-where
-    T: Print + AllocGlobal,
-{
+fn play_parts(rt: &HostRuntime, rows: &[String]) -> io::Result<()> {
     let (sets, bridges) = rows.split_at(front(rows).min(rows.len()));
     if !sets.is_empty() {
         sets::play_rows(rt, sets)?;
@@ -88,34 +81,39 @@ fn front(rows: &[String]) -> usize {
 }
 
 /// Reads all lines, plays those in front of the first heading, and keeps the others.
-fn read_lines<T>(rt: &T, rows: &mut Vec<String>) -> io::Result<()>
+fn read_lines<T>(rt: &T, host: &HostRuntime, rows: &mut Vec<String>) -> io::Result<()>
 where
-    T: Threads + Wait + Sync + Clock + Files<File = File> + Input + Print + Eprint + AllocGlobal,
+    T: Threads + Wait + Sync + Clock,
 {
-    for line in rt.lines(rt.alloc()) {
-        take_read(rt, rows, line)?;
+    for line in host.lines(host.alloc()) {
+        take_read(rt, host, rows, line)?;
     }
     Ok(())
 }
 
 /// Plays or keeps a line that is read.
-fn take_read<T>(rt: &T, rows: &mut Vec<String>, line: io::Result<String>) -> io::Result<()>
+fn take_read<T>(
+    rt: &T,
+    host: &HostRuntime,
+    rows: &mut Vec<String>,
+    line: io::Result<String>,
+) -> io::Result<()>
 where
-    T: Threads + Wait + Sync + Clock + Files<File = File> + Print + Eprint + AllocGlobal,
+    T: Threads + Wait + Sync + Clock,
 {
     match line {
-        Ok(line) => take_line(rt, rows, line),
+        Ok(line) => take_line(rt, host, rows, line),
         Err(error) => Err(error),
     }
 }
 
 /// Plays or keeps a line.
-fn take_line<T>(rt: &T, rows: &mut Vec<String>, line: String) -> io::Result<()>
+fn take_line<T>(rt: &T, host: &HostRuntime, rows: &mut Vec<String>, line: String) -> io::Result<()>
 where
-    T: Threads + Wait + Sync + Clock + Files<File = File> + Print + Eprint + AllocGlobal,
+    T: Threads + Wait + Sync + Clock,
 {
     if rows.is_empty() && !line.starts_with(HEADING) {
-        let played = refusals::play_line(rt, line.as_str());
+        let played = refusals::play_line(rt, host, line.as_str());
         drop(line);
         played
     } else {

@@ -45,33 +45,32 @@ use crate::refusals::calls::{is_one_of, is_word};
 use crate::refusals::rows::{NO_GROWTH, ROWS, play_row};
 use crate::refusals::said::{Said, Stop};
 use std::alloc::Global;
-use std::fs::{File, Files};
 use std::io::{self, ErrorKind, Write};
 use std::sync::Wait;
 use std::thread::Threads;
 use std::time::Clock;
 
 /// Plays a line.
-pub(crate) fn play_line<T>(rt: &T, line: &str) -> io::Result<()>
+pub(crate) fn play_line<T>(rt: &T, host: &HostRuntime, line: &str) -> io::Result<()>
 where
-    T: Threads + Wait + Sync + Clock + Files<File = File> + Print + Eprint + AllocGlobal,
+    T: Threads + Wait + Sync + Clock,
 {
     if is_word(line, "all") {
-        return play_all(rt);
+        return play_all(rt, host);
     }
     match line.strip_prefix("use ") {
-        Some(count) => spend(rt.alloc(), count.parse().unwrap_or(0)),
-        None => show(rt, line),
+        Some(count) => spend(host.alloc(), count.parse().unwrap_or(0)),
+        None => show(rt, host, line),
     }
 }
 
 /// Plays each row.
-fn play_all<T>(rt: &T) -> io::Result<()>
+fn play_all<T>(rt: &T, host: &HostRuntime) -> io::Result<()>
 where
-    T: Threads + Wait + Sync + Clock + Files<File = File> + Print + Eprint + AllocGlobal,
+    T: Threads + Wait + Sync + Clock,
 {
     for name in ROWS.split_whitespace() {
-        show(rt, name)?;
+        show(rt, host, name)?;
     }
     Ok(())
 }
@@ -88,29 +87,29 @@ fn spend(alloc: Global, count: u32) -> io::Result<()> {
 
 /// Plays a row, again if memory was refused beside its call, and prints what it says, and how often
 /// memory was refused to it.
-fn show<T>(rt: &T, name: &str) -> io::Result<()>
+fn show<T>(rt: &T, host: &HostRuntime, name: &str) -> io::Result<()>
 where
-    T: Threads + Wait + Sync + Clock + Files<File = File> + Print + Eprint + AllocGlobal,
+    T: Threads + Wait + Sync + Clock,
 {
-    let mut said = Said::new(rt.alloc());
-    play_row(rt, &mut said, name);
+    let mut said = Said::new(host.alloc());
+    play_row(rt, host, &mut said, name);
     if said.begin_again() {
-        play_row(rt, &mut said, name);
+        play_row(rt, host, &mut said, name);
     }
-    let told = tell(rt, name, &said);
+    let told = tell(host, name, &said);
     drop(said);
     told
 }
 
 /// Prints what a row says, and how often memory was refused to it.
-fn tell<T: Print + Eprint>(rt: &T, name: &str, said: &Said) -> io::Result<()> {
+fn tell(rt: &HostRuntime, name: &str, said: &Said) -> io::Result<()> {
     print(rt, name, said)?;
     let (refused, disk, beside) = (said.refused, said.disk, said.beside);
     eprintln!(rt; "refused {refused} disk {disk} beside {beside}")
 }
 
 /// Prints what a row says.
-fn print<T: Print>(rt: &T, name: &str, said: &Said) -> io::Result<()> {
+fn print(rt: &HostRuntime, name: &str, said: &Said) -> io::Result<()> {
     let mut out = io::writer(rt);
     out.write_all(b"== ")?;
     out.write_all(name.as_bytes())?;

@@ -207,7 +207,7 @@ struct Begun<R: Replica> {
 }
 
 /// Plays rows on both replicas, and writes what that prints, unless memory runs out.
-pub(crate) fn play_rows<T: Print + AllocGlobal>(rt: &T, lines: &[String]) -> io::Result<()> {
+pub(crate) fn play_rows(rt: &HostRuntime, lines: &[String]) -> io::Result<()> {
     let page = print_both(rt.alloc(), lines);
     let written = write(rt, &page);
     drop(page);
@@ -215,7 +215,7 @@ pub(crate) fn play_rows<T: Print + AllocGlobal>(rt: &T, lines: &[String]) -> io:
 }
 
 /// Writes a page, if memory did not run out.
-pub(crate) fn write<T: Print>(rt: &T, page: &Page) -> io::Result<()> {
+pub(crate) fn write(rt: &HostRuntime, page: &Page) -> io::Result<()> {
     if page.is_short() {
         return Err(io::Error::from(ErrorKind::OutOfMemory));
     }

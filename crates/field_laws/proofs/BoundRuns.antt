@@ -7,7 +7,7 @@ use Rattle.rep_op.specs.Sets.{Same}
 use Rattle.rep_model.proofs.Joins.{same_refl}
 use Rattle.sn_local.specs.declared.config.Config.{Config}
 use Rattle.sn_plan.specs.declared.plan.Plan.{Plan}
-use Rattle.sn_plan.specs.Flush.{AreFlush}
+use Rattle.sn_plan.specs.Flush.{HaveNoGap}
 use Rattle.sn_local.specs.Locals.{after_all}
 use Rattle.plan_laws.specs.BoundUp.{IsUp}
 use Rattle.plan_laws.proofs.BoundBehind.{step-up, tick-up, taken-up}
@@ -23,7 +23,7 @@ use Rattle.gw_world.specs.declared.event.Call.TheVariants as calls
 use Rattle.gw_world.specs.declared.event.Answer.{Answer}
 use Rattle.gw_world.specs.declared.event.Answer.TheVariants.{Node, Row, Views, Records, Nothing}
 use Rattle.gw_event.specs.Gateways.{Gateway, new_gateway}
-use Rattle.gw_world.specs.Field.{Field, new_field, IsAt, failing, TogetherAt, After, Run}
+use Rattle.gw_world.specs.Field.{Field, new_field, IsAt, failing_gateway, TogetherAt, After, Run}
 use Rattle.gw_world.proofs.InRows.{Answers, CallAt}
 use Rattle.gw_world.specs.Steady.{IsKnown}
 use Rattle.gw_world.specs.Steps.{restarted}
@@ -48,7 +48,7 @@ set-up i gs next all one j gateway e = elim (set-cases i j gs next gateway e) [
   | inr other ↦ all j gateway other
 ]
 
-plan-up : (gateway : Gateway) → AreFlush gateway.config.gateway gateway.taken → GatewayUp gateway → (occasion : Occasion) (now : ℕ) (plan : Plan) → IsPlan gateway occasion now (Some plan)
+plan-up : (gateway : Gateway) → HaveNoGap gateway.config.gateway gateway.taken → GatewayUp gateway → (occasion : Occasion) (now : ℕ) (plan : Plan) → IsPlan gateway occasion now (Some plan)
     → (delta : List Op) → Same delta plan.ops → IsUp gateway.config.gateway (gateway.taken ++ delta) (after_all gateway.local plan.local)
 plan-up gateway flush up (Datagram from bytes) now plan h delta same =
     step-up gateway.config.gateway gateway.taken flush gateway.local up plan delta same gateway.config.lifetime gateway.config.predefined from h.0 now h.3
@@ -61,8 +61,8 @@ module _ (field : Field) (s : FlushField field) (w : WholeField field) (all : Ar
   own-number : old.config.gateway ≡ n
   own-number = first-number n i field.gateways old (place_of-first n i field.gateways at.0) at.1
 
-  flush-own : AreFlush old.config.gateway old.taken
-  flush-own = subst (λ k. AreFlush k old.taken) (sym own-number) (s n i old (place_of-first n i field.gateways at.0) at.1)
+  flush-own : HaveNoGap old.config.gateway old.taken
+  flush-own = subst (λ k. HaveNoGap k old.taken) (sym own-number) (s n i old (place_of-first n i field.gateways at.0) at.1)
 
   up-here : IsUp n old.taken old.local
   up-here = subst (λ k. IsUp k old.taken old.local) own-number (all i old at.1)
@@ -128,7 +128,7 @@ compact-up old next (Err refusals.Memory) up h = absurd h
 restart-up : (kept : ℕ) (old : Gateway) → GatewayUp (restarted kept old)
 restart-up kept old = tt
 
-failing-up : (bytes : ℕ) (sync : Bool) (old : Gateway) → GatewayUp old → GatewayUp (failing bytes sync old)
+failing-up : (bytes : ℕ) (sync : Bool) (old : Gateway) → GatewayUp old → GatewayUp (failing_gateway bytes sync old)
 failing-up bytes sync old up = up
 
 abbrev UpField : Field → Type 0
@@ -156,7 +156,7 @@ after-up old (Take number delta) (Node answer) new h s w all = call-up old new n
 after-up old (AtOnce number calls) (Row answers) new h s w all = row-up old new number calls (map said answers) h s w all
 after-up old (Asks number peer) (Node answer) new h s w all = subst UpField (sym h.8) all
 after-up old (WriteFails number bytes sync) Nothing new h s w all =
-    subst UpField (sym h.3) (set-up h.0 old.gateways (failing bytes sync h.1) all (failing-up bytes sync h.1 (all h.0 h.1 h.2.1)))
+    subst UpField (sym h.3) (set-up h.0 old.gateways (failing_gateway bytes sync h.1) all (failing-up bytes sync h.1 (all h.0 h.1 h.2.1)))
 after-up old (Compact number) (Node answer) new h s w all =
     subst UpField (sym h.5) (set-up h.0 old.gateways h.2 all (compact-up h.1 h.2 (said answer) (all h.0 h.1 h.3.1) h.4))
 after-up old (Restart number kept) (Records count) new h s w all =

@@ -24,7 +24,7 @@ use Rattle.gw_event.specs.Occasions.{Datagram, Clock}
 use Rattle.gw_event.specs.Gateways.{Gateway}
 use Rattle.gw_answer.specs.declared.step.Step.{Step}
 use Rattle.gw_event.specs.Together.{AreTorn}
-use Rattle.gw_world.specs.Field.{Field, new_field, IsAt, changed, failing, TogetherAt, After, Run}
+use Rattle.gw_world.specs.Field.{Field, new_field, IsAt, field_changed, failing_gateway, TogetherAt, After, Run}
 use Rattle.gw_world.proofs.InRows.{Answers, CallAt, InCalls, calls-keep, row-keeps, torn-row-still}
 use Rattle.gw_world.specs.Steps.{AnswerStep, restarted}
 use Rattle.gw_event.specs.Event.{TakeStep}
@@ -99,7 +99,7 @@ calls-later old new number called answers j S h l =
     calls-keep (λ (x : Field). Later x.gateways j S) number (λ before after call answer one later. call-later before after number call answer j S one later) old new called answers h l
 
 pub torn-later : (field : Field) (i : ℕ) (gateway next : Gateway) (step : Step) (answer : Result Out Refusal) (more : List Step) (j : ℕ) (S : List Op) → slice_get field.gateways i ≡ Some gateway → AreTorn gateway step answer more next
-    → Later field.gateways j S → Later (changed field i next []).gateways j S
+    → Later field.gateways j S → Later (field_changed field i next []).gateways j S
 torn-later field i gateway next step answer more j S at t l = moved-later field.gateways i j gateway next [] S at (inl (torn-row-still gateway next step answer more t)) l
 
 row-later : (old new : Field) (number : ℕ) (called : List Call) (answers : Answers) (j : ℕ) (S : List Op) → TogetherAt old number called answers new → Later old.gateways j S → Later new.gateways j S
@@ -115,7 +115,7 @@ after-later old (Take number delta) (Node answer) new j S h l = call-later old n
 after-later old (AtOnce number calls) (Row answers) new j S h l = row-later old new number calls (map said answers) j S h l
 after-later old (Asks number peer) (Node answer) new j S h l = subst (λ (x : Field). Later x.gateways j S) (sym h.8) l
 after-later old (WriteFails number bytes sync) Nothing new j S h l =
-    subst (λ (x : Field). Later x.gateways j S) (sym h.3) (set-later old.gateways h.0 j h.1 (failing bytes sync h.1) [] S h.2.1 (sym (append-nil h.1.taken)) l)
+    subst (λ (x : Field). Later x.gateways j S) (sym h.3) (set-later old.gateways h.0 j h.1 (failing_gateway bytes sync h.1) [] S h.2.1 (sym (append-nil h.1.taken)) l)
 after-later old (Compact number) (Node answer) new j S h l =
     subst (λ (x : Field). Later x.gateways j S) (sym h.5) (moved-later old.gateways h.0 j h.1 h.2 [] S h.3.1 (inl (compact-still h.1 h.2 (said answer) h.4)) l)
 after-later old (Restart number kept) (Records count) new j S h l =

@@ -8,16 +8,16 @@ use Rattle.rep_op.specs.declared.op.Subject.{Subject}
 use Rattle.rep_op.specs.declared.op.Op.{Op}
 use Rattle.rep_op.specs.declared.fault.OpsFault.{OpsFault}
 use Rattle.rep_op.specs.declared.fault.OpsFault.TheVariants as ops_faults
-use Rattle.rep_ops.specs.Making.{AreApart, IsDeltaOf, IsRefusal}
-use Rattle.rep_ops.specs.Spelling.{spelling, IsWithinLimit}
+use Rattle.rep_ops.specs.Making.{HaveOwnNames, IsDeltaOf, IsRefusal}
+use Rattle.rep_ops.specs.Spelling.{delta_spelling, IsDeltaWithinLimit}
 use Rattle.rep_model.specs.Limits.{first_passed}
 use Rattle.rep_digest.specs.Digests.{digest}
-use Rattle.rep_digest.specs.Spelling.{IsWithinLimit as IsDigestWithinLimit}
+use Rattle.rep_digest.specs.Spelling.{IsDigestWithinLimit}
 use Rattle.sn_plan.specs.declared.plan.Plan.{Plan}
 use Rattle.sn_local.specs.Seen.{seen_of}
 use Rattle.sn_local.specs.Locals.{after_all}
 use Rattle.sn_local.specs.declared.config.Send.{Send}
-use Rattle.jr_disk.specs.declared.disk.Plan.{Plan as Failure}
+use Rattle.jr_disk.specs.declared.disk.Failure.{Failure}
 use Rattle.sn_deliver.specs.Steps.{step}
 use Rattle.gw_answer.specs.declared.out.Out.{Out}
 use Rattle.gw_answer.specs.declared.refusal.Refusal.{Refusal}
@@ -43,12 +43,12 @@ no-delta = record {
 }
 
 -- what has one delta within the limit makes it
-made-refused : (ops d : List Op) (fault : OpsFault) → fault ≢ ops_faults.Memory → AreApart ops → IsDeltaOf ops d → IsWithinLimit d → IsRefusal ops fault → ⊥
+made-refused : (ops d : List Op) (fault : OpsFault) → fault ≢ ops_faults.Memory → HaveOwnNames ops → IsDeltaOf ops d → IsDeltaWithinLimit d → IsRefusal ops fault → ⊥
 made-refused ops d ops_faults.Kind n apart is within h = h apart.well_made
 made-refused ops d ops_faults.Twice n apart is within h = apart.once h.1
 made-refused ops d ops_faults.Limit n apart is within h =
     let same : h.1.0 ≡ d = delta-one ops h.1.0 d h.1.1 is in
-    let passed : 8388608 < length (spelling d) = subst (λ (e : List Op). 8388608 < length (spelling e)) same h.1.2 in
+    let passed : 8388608 < length (delta_spelling d) = subst (λ (e : List Op). 8388608 < length (delta_spelling e)) same h.1.2 in
     omega (arith, within, passed)
 made-refused ops d ops_faults.Memory n apart is within h = n refl
 made-refused ops d ops_faults.Truncated n apart is within h = h
@@ -56,7 +56,7 @@ made-refused ops d ops_faults.Version n apart is within h = h
 made-refused ops d ops_faults.Order n apart is within h = h
 made-refused ops d ops_faults.Trailing n apart is within h = h
 
-none-within : IsWithinLimit []
+none-within : IsDeltaWithinLimit []
 none-within = omega arith
 
 -- ---- a plan that is carried out
@@ -76,7 +76,7 @@ made-one (op ∷ ops) old plan (Some d) (Some e) new next made mades h k =
     )
 
 -- a plan that is carried out is not refused, where no limit was passed before
-made-full : (ops : List Op) (old : Gateway) (plan : Plan) (d : Option (List Op)) (new : Gateway) (made : List (List Op)) → first_passed old.taken ≡ None → AreApart ops → IsMade ops old plan d new made
+made-full : (ops : List Op) (old : Gateway) (plan : Plan) (d : Option (List Op)) (new : Gateway) (made : List (List Op)) → first_passed old.taken ≡ None → HaveOwnNames ops → IsMade ops old plan d new made
     → ((delta : List Op) × IsDeltaOf ops delta × IsRefused old.taken delta refusals.Full) ⊎ ((fault : OpsFault) × (fault ≢ ops_faults.Memory) × IsRefusal ops fault) → ⊥
 made-full [] old plan None new made room apart h (inl k) =
     let same : k.0 ≡ [] = delta-one [] k.0 [] k.1 no-delta in

@@ -8,7 +8,7 @@ use Rattle.rep_model.proofs.Lookup.{or_else}
 use Rattle.std.proofs.lemmas.List.Elements.{All-from_recursion, All-contains, Contains-append_left, Contains-append_right}
 use Rattle.std.proofs.lemmas.Option.{none-some, same_Some, slice_get_within, get_or_from_slice_get}
 use Rattle.rep_op.specs.declared.op.Op.{Op}
-use Rattle.rep_op.specs.Sets.{operation_at, put_at, is_acknowledged, retain_at, Stands, Within, Same}
+use Rattle.rep_op.specs.Sets.{operation_at, put_at, is_acknowledged, retain_at, HasOperation, Within, Same}
 use Rattle.rep_model.specs.Keep.{keep, CountsAs}
 use Rattle.rep_model.proofs.Joins.{counts-more, within-left, within-standing, same_sym, same_trans}
 use Rattle.rep_model.proofs.Readers.{operation_at_both, put_at_both, is_acknowledged_both, retain_at_both}
@@ -21,7 +21,7 @@ use Rattle.gw_answer.specs.declared.out.Out.{Out}
 use Rattle.gw_answer.specs.declared.refusal.Refusal.{Refusal}
 use Rattle.gw_event.specs.Occasions.{Occasion, Datagram, Clock}
 use Rattle.gw_answer.specs.Answers.{said}
-use Rattle.gw_node.specs.Taking.{IsWhole, StandsFor}
+use Rattle.gw_node.specs.Taking.{IsWhole, RecoversTo}
 use Rattle.gw_node.proofs.Between.{within-trans}
 use Rattle.gw_node.proofs.Taken.{as_taken}
 use Rattle.gw_node.proofs.Refused.{refused_is}
@@ -34,7 +34,7 @@ use Rattle.gw_world.specs.declared.event.Answer.TheVariants.{Node, Row, Views, R
 use Rattle.gw_event.specs.Gateways.{Gateway, with_refused}
 use Rattle.sn_plan.proofs.Lists.{all-weaken, all-append}
 use Rattle.rep_model.proofs.Joins.{all-moved}
-use Rattle.gw_world.specs.Field.{Field, new_field, IsAt, changed, TogetherAt, After, Run, gateway_of}
+use Rattle.gw_world.specs.Field.{Field, new_field, IsAt, field_changed, TogetherAt, After, Run, gateway_of_event}
 use Rattle.gw_world.proofs.InRows.{Answers, CallAt, InCalls, CutShort, at-changed, moved-config, fed-config, row-moves}
 use Rattle.gw_world.specs.Events.{made_of, answered_of}
 use Rattle.gw_world.specs.Steps.{AnswerStep}
@@ -99,7 +99,7 @@ same-place field number i j one other h k = same_Some i j (sym h.0 ∙ k.0)
 
 -- from then on it stands in what the gateway in this place has taken
 own-later : (old mid : Field) (number i : ℕ) (maker : Gateway) (occasion : Occasion) (now : ℕ) (answer : Result Out Refusal) (delta : List Op)
-    → IsAt old number i maker → (j : ℕ) (gateway next : Gateway) (made : List (List Op)) → IsAt old number j gateway → OwnStep gateway occasion now answer next made → mid ≡ changed old j next made
+    → IsAt old number i maker → (j : ℕ) (gateway next : Gateway) (made : List (List Op)) → IsAt old number j gateway → OwnStep gateway occasion now answer next made → mid ≡ field_changed old j next made
     → Contains (made_of answer) delta → (S : List Op) × Later mid.gateways i (S ++ delta)
 own-later old mid number i maker occasion now answer delta at j gateway next made here step is there =
     let e = same-place old number j i gateway maker here at in
@@ -115,15 +115,15 @@ call-there : (old mid : Field) (number i : ℕ) (maker : Gateway) (call : Call) 
 call-there old mid number i maker (calls.Frame from bytes now) answer at h =
     let e = same-place old number h.0 i h.1 maker h.4 at in
     let there = at-changed old number h.0 h.1 h.2 h.3 h.4 (moved-config h.1 h.2 h.3 (own-moves h.1 (Datagram from bytes) now answer h.2 h.3 h.5)) in
-    (h.2, subst (λ (f : Field). IsAt f number i h.2) (sym h.6) (subst (λ (k : ℕ). IsAt (changed old h.0 h.2 h.3) number k h.2) e there))
+    (h.2, subst (λ (f : Field). IsAt f number i h.2) (sym h.6) (subst (λ (k : ℕ). IsAt (field_changed old h.0 h.2 h.3) number k h.2) e there))
 call-there old mid number i maker (calls.Tick now) answer at h =
     let e = same-place old number h.0 i h.1 maker h.4 at in
     let there = at-changed old number h.0 h.1 h.2 h.3 h.4 (moved-config h.1 h.2 h.3 (own-moves h.1 Clock now answer h.2 h.3 h.5)) in
-    (h.2, subst (λ (f : Field). IsAt f number i h.2) (sym h.6) (subst (λ (k : ℕ). IsAt (changed old h.0 h.2 h.3) number k h.2) e there))
+    (h.2, subst (λ (f : Field). IsAt f number i h.2) (sym h.6) (subst (λ (k : ℕ). IsAt (field_changed old h.0 h.2 h.3) number k h.2) e there))
 call-there old mid number i maker (calls.Take delta) answer at h =
     let e = same-place old number h.0 i h.1 maker h.5 at in
     let there = at-changed old number h.0 h.1 h.2 h.3 h.5 (fed-config h.1 h.2 h.4 h.3 (take-moves h.1 h.4 answer h.2 h.3 h.7)) in
-    (h.2, subst (λ (f : Field). IsAt f number i h.2) (sym h.8) (subst (λ (k : ℕ). IsAt (changed old h.0 h.2 h.3) number k h.2) e there))
+    (h.2, subst (λ (f : Field). IsAt f number i h.2) (sym h.8) (subst (λ (k : ℕ). IsAt (field_changed old h.0 h.2 h.3) number k h.2) e there))
 
 call-made : (old mid : Field) (number i : ℕ) (maker : Gateway) (call : Call) (answer : Result Out Refusal) (delta : List Op) → IsAt old number i maker → CallAt old number call answer mid → Contains (made_of answer) delta → (S : List Op) × Later mid.gateways i (S ++ delta)
 call-made old mid number i maker (calls.Frame from bytes now) answer delta at h there = own-later old mid number i maker (Datagram from bytes) now answer delta at h.0 h.1 h.2 h.3 h.4 h.5 h.6 there
@@ -166,7 +166,7 @@ row-made old new number i maker called answers delta at h there =
     ]
 
 made-later : (old mid : Field) (event : Event) (answer : Answer) (delta : List Op) (i : ℕ) (maker : Gateway) → After old event answer mid → Contains (made_by answer) delta
-    → MayMake event → IsAt old (gateway_of event) i maker → (S : List Op) × Later mid.gateways i (S ++ delta)
+    → MayMake event → IsAt old (gateway_of_event event) i maker → (S : List Op) × Later mid.gateways i (S ++ delta)
 made-later old mid (Frame number from bytes now) (Node answer) delta i maker h there may at =
     own-later old mid number i maker (Datagram from bytes) now (said answer) delta at h.0 h.1 h.2 h.3 h.4 h.5 h.6 there
 made-later old mid (Tick number now) (Node answer) delta i maker h there may at =
@@ -201,8 +201,8 @@ answer-within : (asker peer : Gateway) (answer : Result Out Refusal) (made : Lis
 answer-within asker peer answer made delta step there =
     let a = answered asker peer answer made step in
     let listed : Contains made delta = subst (λ (ds : List (List Op)). Contains ds delta) (sym (answer-told asker peer answer made step).1) there in
-    let P : List Op → Type 0 = λ D. AllByRecursion (Stands (all_of made)) D in
-    let each : AllByRecursion P made = flat-all (Stands (all_of made)) (λ (D : List Op). D) made a.consistent in
+    let P : List Op → Type 0 = λ D. AllByRecursion (HasOperation (all_of made)) D in
+    let each : AllByRecursion P made = flat-all (HasOperation (all_of made)) (λ (D : List Op). D) made a.consistent in
     let stands : P delta = All-contains P made delta (All-from_recursion P made each) listed in
     within-trans delta (all_of made) peer.taken (within-standing (all_of made) delta stands) a.within
 
@@ -214,8 +214,8 @@ same-gateway field number i j one other h k =
 -- ---- the law
 
 pub field-stored : (configs : List Config) (events more : List Event) (answers replies : List Answer) (old mid new : Field) (event : Event) (answer : Answer) (delta : List Op) (i : ℕ) (maker later : Gateway) (n : ℕ) (image : Image)
-    → Run (new_field configs) events answers old → After old event answer mid → Contains (made_by answer) delta → IsAt old (gateway_of event) i maker
-    → Run mid more replies new → slice_get new.gateways i ≡ Some later → StandsFor later.config.gateway (with_refused n later.taken later.refused) [] image
+    → Run (new_field configs) events answers old → After old event answer mid → Contains (made_by answer) delta → IsAt old (gateway_of_event event) i maker
+    → Run mid more replies new → slice_get new.gateways i ≡ Some later → RecoversTo later.config.gateway (with_refused n later.taken later.refused) [] image
     → HasStored later.config.gateway image delta
 field-stored configs events more answers replies old mid new event answer delta i maker later n image run after there at goes_on place stands =
     let first = field-sound configs events answers old run in
@@ -234,7 +234,7 @@ field-stored configs events more answers replies old mid new event answer delta 
 
 pub answer-stored : (more : List Event) (replies : List Answer) (old mid new : Field) (number other : ℕ) (answer : Result (Arc Out Global) NodeFault) (delta : List Op) (i : ℕ) (peer later : Gateway) (n : ℕ) (image : Image)
     → After old (Asks number other) (Node answer) mid → Contains (answered_of (said answer)) delta → IsAt old other i peer
-    → Run mid more replies new → slice_get new.gateways i ≡ Some later → StandsFor later.config.gateway (with_refused n later.taken later.refused) [] image
+    → Run mid more replies new → slice_get new.gateways i ≡ Some later → RecoversTo later.config.gateway (with_refused n later.taken later.refused) [] image
     → HasStored later.config.gateway image delta
 answer-stored more replies old mid new number other answer delta i peer later n image after there at goes_on place stands =
     let is : after.3 ≡ peer = same-gateway old other after.1 i after.3 peer after.6 at in

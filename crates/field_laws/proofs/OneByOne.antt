@@ -21,7 +21,7 @@ use Rattle.gw_world.specs.declared.event.Call.{Call}
 use Rattle.gw_world.specs.declared.event.Call.TheVariants as calls
 use Rattle.gw_world.specs.declared.event.Answer.{Answer}
 use Rattle.gw_world.specs.declared.event.Answer.TheVariants.{Node, Row}
-use Rattle.gw_world.specs.Field.{Field, changed, TogetherAt, After, Run, by_itself, AreFieldsAlike}
+use Rattle.gw_world.specs.Field.{Field, field_changed, TogetherAt, After, Run, by_itself, AreFieldsAlike}
 use Rattle.gw_world.proofs.InRows.{Answers, CallAt, InCalls, CutShort, in-calls, turn-fed, row-moves}
 
 one-event : (old new : Field) (number : ℕ) (call : Call) (answer : Result (Arc Out Global) NodeFault) → CallAt old number call (said answer) new → After old (by_itself number call) (Node answer) new
@@ -68,6 +68,6 @@ pub row-told : (old new : Field) (number : ℕ) (called : List Call) (answers : 
 row-told old new number called answers h =
     let told = together_told h.1 h.2 h.4 (map said answers) h.3 h.7 in
     let all = in-calls old number h.0 h.1 told.0 called h.4 (map said answers) h.3 h.5 h.6 (turn-fed h.1 told.0 h.4 (map said answers) h.3 h.8 told.1) in
-    let alone : Field = changed old h.0 told.0 h.3 in
-    let alike : AreFieldsAlike alone (changed old h.0 h.2 h.3) = record { deltas = refl; gateways = λ i g same e f. set-alike old.gateways h.0 told.0 h.2 told.2 i g same e f } in
+    let alone : Field = field_changed old h.0 told.0 h.3 in
+    let alike : AreFieldsAlike alone (field_changed old h.0 h.2 h.3) = record { deltas = refl; gateways = λ i g same e f. set-alike old.gateways h.0 told.0 h.2 told.2 i g same e f } in
     (alone, calls-run old alone number called answers all.0, subst (λ (f : Field). AreFieldsAlike alone f) (sym h.9) alike)

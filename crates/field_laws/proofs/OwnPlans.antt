@@ -6,11 +6,11 @@ use Rattle.rep_op.specs.declared.op.Op.{Op}
 use Rattle.rep_op.specs.declared.fault.OpsFault.{OpsFault}
 use Rattle.rep_op.specs.declared.fault.OpsFault.TheVariants as ops_faults
 use Rattle.rep_ops.specs.Deltas.{IsDelta}
-use Rattle.rep_ops.specs.Making.{AreApart, AreWellMade, IsRefusal}
+use Rattle.rep_ops.specs.Making.{HaveOwnNames, AreWellMade, IsRefusal}
 use Rattle.rep_op.specs.WellMade.{is_well_made}
 use Rattle.sn_local.specs.declared.config.Config.{Config}
 use Rattle.sn_plan.specs.declared.plan.Plan.{Plan}
-use Rattle.sn_plan.specs.Flush.{AreFlush}
+use Rattle.sn_plan.specs.Flush.{HaveNoGap}
 use Rattle.sn_plan.proofs.Lists.{all-append}
 use Rattle.plan_laws.specs.KeepsWell.{AreAsked, KeepsWell}
 use Rattle.plan_laws.proofs.Steps.{Makes, step-makes, tick-makes, after-asked}
@@ -29,7 +29,7 @@ use Rattle.gw_event.specs.Gateways.{Gateway, new_gateway}
 use Rattle.gw_answer.specs.declared.step.Step.{Step}
 use Rattle.gw_event.specs.Together.{AreTorn}
 use Rattle.gw_event.specs.Drives.{left_by, more_records}
-use Rattle.gw_world.specs.Field.{Field, new_field, IsAt, failing, TogetherAt, After, Run}
+use Rattle.gw_world.specs.Field.{Field, new_field, IsAt, failing_gateway, TogetherAt, After, Run}
 use Rattle.gw_world.proofs.InRows.{Answers, CallAt}
 use Rattle.gw_world.specs.Steps.{restarted}
 use Rattle.gw_event.specs.Event.{NothingHappens, IsTorn, IsMade, IsPlan, IsTooMuch, OwnStep, TakeStep, CompactStep}
@@ -73,13 +73,13 @@ module _ (field : Field) (s : FlushField field) (all : AreWell field.gateways) (
   own-number : old.config.gateway ≡ n
   own-number = first-number n i field.gateways old (place_of-first n i field.gateways at.0) at.1
 
-  flush-here : AreFlush n old.taken
+  flush-here : HaveNoGap n old.taken
   flush-here = s n i old (place_of-first n i field.gateways at.0) at.1
 
   keeps-own : KeepsWell old.config.gateway old.taken old.local
   keeps-own =
       let w = all i old at.1 in
-      record { numbered = w.numbered; flush = subst (λ k. AreFlush k old.taken) (sym own-number) flush-here; made = w.made; asked = w.asked }
+      record { numbered = w.numbered; flush = subst (λ k. HaveNoGap k old.taken) (sym own-number) flush-here; made = w.made; asked = w.asked }
 
   keeps-here : KeepsWell n old.taken old.local
   keeps-here = subst (λ k. KeepsWell k old.taken old.local) own-number keeps-own
@@ -167,7 +167,7 @@ restart-well kept old deltas proper due w = record {
   asked = tt;
 }
 
-failing-well : (bytes : ℕ) (sync : Bool) (old : Gateway) → Well old → Well (failing bytes sync old)
+failing-well : (bytes : ℕ) (sync : Bool) (old : Gateway) → Well old → Well (failing_gateway bytes sync old)
 failing-well bytes sync old w = record { numbered = w.numbered; made = w.made; asked = w.asked }
 
 abbrev WellField : Field → Type 0
@@ -199,7 +199,7 @@ after-well old (Take number delta) (Node answer) new h s w d all = call-well old
 after-well old (AtOnce number calls) (Row answers) new h s w d all = row-well old new number calls (map said answers) h s w all
 after-well old (Asks number peer) (Node answer) new h s w d all = subst WellField (sym h.8) all
 after-well old (WriteFails number bytes sync) Nothing new h s w d all =
-    subst WellField (sym h.3) (set-well h.0 old.gateways (failing bytes sync h.1) all (failing-well bytes sync h.1 (all h.0 h.1 h.2.1)))
+    subst WellField (sym h.3) (set-well h.0 old.gateways (failing_gateway bytes sync h.1) all (failing-well bytes sync h.1 (all h.0 h.1 h.2.1)))
 after-well old (Compact number) (Node answer) new h s w d all =
     subst WellField (sym h.5) (set-well h.0 old.gateways h.2 all (compact-well h.1 h.2 (said answer) (all h.0 h.1 h.3.1) h.4))
 after-well old (Restart number kept) (Records count) new h s w d all =
@@ -269,11 +269,11 @@ module _ (configs : List Config) (events : List Event) (answers : List Answer) (
   pub run-keeps : KeepsWell number gateway.taken gateway.local
   run-keeps = keeps-here field ran.flush ran.well number i gateway at
 
-  pub run-makes : (occasion : Occasion) (now : ℕ) (plan : Plan) → IsPlan gateway occasion now (Some plan) → AreApart plan.ops
+  pub run-makes : (occasion : Occasion) (now : ℕ) (plan : Plan) → IsPlan gateway occasion now (Some plan) → HaveOwnNames plan.ops
   run-makes occasion now plan h = (makes-here field ran.flush ran.well number i gateway at occasion now plan h).apart
 
   -- operations that can be written make a delta, or are too long
-  only-long : (plan : Plan) → AreApart plan.ops → (fault : OpsFault) → fault ≢ ops_faults.Memory → IsRefusal plan.ops fault → IsTooLong plan
+  only-long : (plan : Plan) → HaveOwnNames plan.ops → (fault : OpsFault) → fault ≢ ops_faults.Memory → IsRefusal plan.ops fault → IsTooLong plan
   only-long plan apart ops_faults.Kind other h = absurd (h apart.well_made)
   only-long plan apart ops_faults.Twice other h = absurd (apart.once h.1)
   only-long plan apart ops_faults.Limit other h = h.1

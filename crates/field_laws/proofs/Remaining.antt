@@ -14,7 +14,7 @@ use Rattle.gw_event.specs.Occasions.{Datagram, Clock}
 use Rattle.gw_event.specs.Gateways.{Gateway}
 use Rattle.gw_answer.specs.declared.out.Out.{Out}
 use Rattle.gw_answer.specs.declared.refusal.Refusal.{Refusal}
-use Rattle.gw_world.specs.Field.{Field, failing, TogetherAt, After, Run}
+use Rattle.gw_world.specs.Field.{Field, failing_gateway, TogetherAt, After, Run}
 use Rattle.gw_world.proofs.InRows.{Answers, CallAt, row-keeps, torn-row-still}
 use Rattle.gw_world.specs.Steps.{restarted}
 use Rattle.gw_world.proofs.Steadiness.{Still, Stepped, Fed, own-moves, take-moves, compact-still, restart-feeds}
@@ -54,7 +54,7 @@ after-same old (Tick number now) (Node answer) new h = call-same old new number 
 after-same old (Take number delta) (Node answer) new h = call-same old new number (calls.Take delta) (said answer) h
 after-same old (AtOnce number calls) (Row answers) new h = row-same old new number calls (map said answers) h
 after-same old (Asks number peer) (Node answer) new h = ap settings h.8
-after-same old (WriteFails number bytes sync) Nothing new h = ap settings h.3 ∙ set-same old.gateways h.0 h.1 (failing bytes sync h.1) h.2.1 refl
+after-same old (WriteFails number bytes sync) Nothing new h = ap settings h.3 ∙ set-same old.gateways h.0 h.1 (failing_gateway bytes sync h.1) h.2.1 refl
 after-same old (Compact number) (Node answer) new h =
     ap settings h.5 ∙ set-same old.gateways h.0 h.1 h.2 h.3.1 (compact-still h.1 h.2 (said answer) h.4).config
 after-same old (Restart number kept) (Records count) new h =

@@ -24,10 +24,10 @@ use Rattle.gw_world.specs.declared.event.Call.TheVariants as calls
 use Rattle.gw_world.specs.declared.event.Answer.{Answer}
 use Rattle.gw_world.specs.declared.event.Answer.TheVariants.{Node, Row, Views, Records, Nothing}
 use Rattle.gw_event.specs.Gateways.{Gateway, new_gateway}
-use Rattle.gw_world.specs.Field.{Field, new_field, IsAt, changed, failing, shown, Steps, Asked, TogetherAt, After, Run}
+use Rattle.gw_world.specs.Field.{Field, new_field, IsAt, field_changed, failing_gateway, shown, Steps, Asked, TogetherAt, After, Run}
 use Rattle.gw_world.specs.Steps.{AnswerStep, records_left, restarted}
 use Rattle.gw_event.specs.Event.{OwnStep, TakeStep, CompactStep}
-use Rattle.gw_world.specs.Telling.{Said, AllSaid, Shown, Read, told}
+use Rattle.gw_world.specs.Telling.{Said, AllSaid, Shown, Read, answer_value}
 use Rattle.gw_world.proofs.Consistency.{FlushField, WholeField, after-sound, start-whole}
 use Rattle.gw_world.proofs.Failures.{DueField, after-due, start-due}
 use Rattle.gw_world.proofs.Steadiness.{start-flush}
@@ -77,7 +77,7 @@ steps-one : (old : Field) (number : ℕ) (occasion : Occasion) (now : ℕ) (a b 
 steps-one old number occasion now a b new next room f g h k =
     let at = at-one old number h.0 k.0 h.1 k.1 h.4 k.4 in
     let one = own-one h.1 occasion now a b h.2 k.2 h.3 k.3 (room-at old.gateways h.0 h.1 room h.4.1).now f g h.5 (subst (λ (x : Gateway). OwnStep x occasion now b k.2 k.3) (sym at.1) k.5) in
-    let same : changed old h.0 h.2 h.3 ≡ changed old k.0 k.2 k.3 = λ t. changed old (at.0 t) (one.1 t) (one.2 t) in
+    let same : field_changed old h.0 h.2 h.3 ≡ field_changed old k.0 k.2 k.3 = λ t. field_changed old (at.0 t) (one.1 t) (one.2 t) in
     (one.0, h.6 ∙ same ∙ sym k.6)
 
 steps-room : (old : Field) (number : ℕ) (occasion : Occasion) (now : ℕ) (a : Result Out Refusal) (new : Field) → HaveRoom old → Steps old number occasion now a new → HaveRoom new
@@ -94,17 +94,17 @@ asks-one old number other a b new next h k =
 
 compacts-one : (old : Field) (number : ℕ) (a b : Result Out Refusal) (new next : Field) (i j : ℕ) (gateway other then_one then_other : Gateway)
     → IsAt old number i gateway → IsAt old number j other → CompactStep gateway a then_one → CompactStep other b then_other
-    → new ≡ changed old i then_one [] → next ≡ changed old j then_other [] → (a ≡ b) × (new ≡ next)
+    → new ≡ field_changed old i then_one [] → next ≡ field_changed old j then_other [] → (a ≡ b) × (new ≡ next)
 compacts-one old number a b new next i j gateway other then_one then_other h k s t e f =
     let at = at-one old number i j gateway other h k in
     let one = compact-one gateway a b then_one then_other s (subst (λ (x : Gateway). CompactStep x b then_other) (sym at.1) t) in
-    let same : changed old i then_one [] ≡ changed old j then_other [] = λ u. changed old (at.0 u) (one.1 u) [] in
+    let same : field_changed old i then_one [] ≡ field_changed old j then_other [] = λ u. field_changed old (at.0 u) (one.1 u) [] in
     (one.0, e ∙ same ∙ sym f)
 
-next-at : (old new : Field) (i : ℕ) (gateway next : Gateway) → HaveRoom old → slice_get old.gateways i ≡ Some gateway → (HasRoom gateway → HasRoom next) → new ≡ changed old i next [] → HaveRoom new
+next-at : (old new : Field) (i : ℕ) (gateway next : Gateway) → HaveRoom old → slice_get old.gateways i ≡ Some gateway → (HasRoom gateway → HasRoom next) → new ≡ field_changed old i next [] → HaveRoom new
 next-at old new i gateway next room there f e = subst HaveRoom (sym e) (room-set old.gateways i next room (f (room-at old.gateways i gateway room there)))
 
-pub after-one : (old : Field) (event : Event) (a b : Answer) (new next : Field) → HaveRoom old → FlushField old → WholeField old → IsCalm a → IsCalm b → After old event a new → After old event b next → (told a ≡ told b) × (new ≡ next)
+pub after-one : (old : Field) (event : Event) (a b : Answer) (new next : Field) → HaveRoom old → FlushField old → WholeField old → IsCalm a → IsCalm b → After old event a new → After old event b next → (answer_value a ≡ answer_value b) × (new ≡ next)
 after-one old (Frame number from bytes now) (Node a) (Node b) new next room s w f g h k =
     let one = steps-one old number (Datagram from bytes) now (said a) (said b) new next room f g h k in
     (ap (λ (x : Result Out Refusal). Said x) one.0, one.1)
@@ -116,21 +116,21 @@ after-one old (Take number delta) (Node a) (Node b) new next room s w f g h k =
     let ops : h.4 ≡ k.4 = same_Some h.4 k.4 (sym h.6.1 ∙ k.6.1) in
     let one = take-one h.1 h.4 (said a) (said b) h.2 k.2 h.3 k.3 f g h.7
     (subst (λ (x : Gateway). TakeStep x h.4 (said b) k.2 k.3) (sym at.1) (subst (λ (d : List Op). TakeStep k.1 d (said b) k.2 k.3) (sym ops) k.7)) in
-    let same : changed old h.0 h.2 h.3 ≡ changed old k.0 k.2 k.3 = λ t. changed old (at.0 t) (one.1 t) (one.2 t) in
+    let same : field_changed old h.0 h.2 h.3 ≡ field_changed old k.0 k.2 k.3 = λ t. field_changed old (at.0 t) (one.1 t) (one.2 t) in
     (ap (λ (x : Result Out Refusal). Said x) one.0, h.8 ∙ same ∙ sym k.8)
 after-one old (Asks number other) (Node a) (Node b) new next room s w f g h k =
     let one = asks-one old number other (said a) (said b) new next h k in
     (ap (λ (x : Result Out Refusal). Said x) one.0, one.1)
 after-one old (WriteFails number bytes sync) Nothing Nothing new next room s w f g h k =
     let at = at-one old number h.0 k.0 h.1 k.1 h.2 k.2 in
-    let same : changed old h.0 (failing bytes sync h.1) [] ≡ changed old k.0 (failing bytes sync k.1) [] = λ t. changed old (at.0 t) (failing bytes sync (at.1 t)) [] in
+    let same : field_changed old h.0 (failing_gateway bytes sync h.1) [] ≡ field_changed old k.0 (failing_gateway bytes sync k.1) [] = λ t. field_changed old (at.0 t) (failing_gateway bytes sync (at.1 t)) [] in
     (refl, h.3 ∙ same ∙ sym k.3)
 after-one old (Compact number) (Node a) (Node b) new next room s w f g h k =
     let one = compacts-one old number (said a) (said b) new next h.0 k.0 h.1 k.1 h.2 k.2 h.3 k.3 h.4 k.4 h.5 k.5 in
     (ap (λ (x : Result Out Refusal). Said x) one.0, one.1)
 after-one old (Restart number kept) (Records a) (Records b) new next room s w f g h k =
     let at = at-one old number h.0 k.0 h.1 k.1 h.2 k.2 in
-    let same : changed old h.0 (restarted kept h.1) [] ≡ changed old k.0 (restarted kept k.1) [] = λ t. changed old (at.0 t) (restarted kept (at.1 t)) [] in
+    let same : field_changed old h.0 (restarted kept h.1) [] ≡ field_changed old k.0 (restarted kept k.1) [] = λ t. field_changed old (at.0 t) (restarted kept (at.1 t)) [] in
     (ap (λ (n : ℕ). Read n) (h.3 ∙ ap (λ (x : Gateway). records_left kept x) at.1 ∙ sym k.3), h.4 ∙ same ∙ sym k.4)
 after-one old (Show number) (Views a ts) (Views b us) new next room s w f g h k =
     let at = at-one old number h.0 k.0 h.1 k.1 h.2 k.2 in
@@ -233,7 +233,7 @@ after-room old (Take number delta) (Node a) new room h =
     subst HaveRoom (sym h.8) (room-set old.gateways h.0 h.2 room (take-room h.1 h.4 (said a) h.2 h.3 h.7 (room-at old.gateways h.0 h.1 room h.5.1)))
 after-room old (AtOnce number calls) (Row a) new room h = row-room old new number calls (map said a) h room
 after-room old (Asks number other) (Node a) new room h = subst HaveRoom (sym h.8) room
-after-room old (WriteFails number bytes sync) Nothing new room h = next-at old new h.0 h.1 (failing bytes sync h.1) room h.2.1 (failing-room bytes sync h.1) h.3
+after-room old (WriteFails number bytes sync) Nothing new room h = next-at old new h.0 h.1 (failing_gateway bytes sync h.1) room h.2.1 (failing-room bytes sync h.1) h.3
 after-room old (Compact number) (Node a) new room h = next-at old new h.0 h.1 h.2 room h.3.1 (compact-room h.1 h.2 (said a) h.4) h.5
 after-room old (Restart number kept) (Records a) new room h = next-at old new h.0 h.1 (restarted kept h.1) room h.2.1 (restart-room kept h.1) h.4
 after-room old (Show number) (Views a ts) new room h = subst HaveRoom (sym h.4) room
@@ -277,7 +277,7 @@ after-room old (Show number) (Row answers) new room h = absurd h
 -- ---- runs
 
 pub run-one : (old : Field) (events : List Event) (answers others : List Answer) (one other : Field) → HaveRoom old → FlushField old → WholeField old → DueField old → AllByRecursion IsCalm answers → AllByRecursion IsCalm others
-    → Run old events answers one → Run old events others other → (map told answers ≡ map told others) × (one ≡ other)
+    → Run old events answers one → Run old events others other → (map answer_value answers ≡ map answer_value others) × (one ≡ other)
 run-one old [] [] [] one other room s w d f g h k = (refl, h ∙ sym k)
 run-one old (event ∷ events) (a ∷ answers) (b ∷ others) one other room s w d f g h k =
     let first = after-one old event a b h.0 k.0 room s w f.0 g.0 h.1 k.1 in
@@ -317,6 +317,6 @@ calm-answers answers f =
     (recursion_from_All (λ (x : Answer). Contains answers x) answers (All-contains_itself answers))
 
 pub runs-one : (configs : List Config) (events : List Event) (answers others : List Answer) (one other : Field) → HaveNoConflict answers → HaveNoConflict others
-    → Run (new_field configs) events answers one → Run (new_field configs) events others other → (map told answers ≡ map told others) × (one ≡ other)
+    → Run (new_field configs) events answers one → Run (new_field configs) events others other → (map answer_value answers ≡ map answer_value others) × (one ≡ other)
 runs-one configs events answers others one other f g h k =
     run-one (new_field configs) events answers others one other (room-start configs) (start-flush configs) (start-whole configs) (start-due configs) (calm-answers answers f) (calm-answers others g) h k

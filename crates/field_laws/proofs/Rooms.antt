@@ -8,7 +8,7 @@ use Rattle.gw_answer.specs.declared.refusal.Refusal.{Refusal}
 use Rattle.gw_answer.specs.declared.refusal.Refusal.TheVariants as refusals
 use Rattle.gw_event.specs.Occasions.{Occasion}
 use Rattle.gw_event.specs.Gateways.{Gateway, with_refused}
-use Rattle.gw_world.specs.Field.{failing}
+use Rattle.gw_world.specs.Field.{failing_gateway}
 use Rattle.gw_event.specs.Drives.{left_by, more_records}
 use Rattle.gw_world.specs.Steps.{restarted}
 use Rattle.std.specs.List.{AllByRecursion}
@@ -83,7 +83,7 @@ compact-room old new (Err refusals.Full) h r = absurd h
 compact-room old new (Err refusals.Exhausted) h r = absurd h
 compact-room old new (Err refusals.Memory) h r = absurd h
 
-pub failing-room : (bytes : ℕ) (sync : Bool) (old : Gateway) → HasRoom old → HasRoom (failing bytes sync old)
+pub failing-room : (bytes : ℕ) (sync : Bool) (old : Gateway) → HasRoom old → HasRoom (failing_gateway bytes sync old)
 failing-room bytes sync old r = record { now = r.now; back = r.back; runs = r.runs }
 
 pub restart-room : (kept : ℕ) (old : Gateway) → HasRoom old → HasRoom (restarted kept old)

@@ -4,7 +4,7 @@ use Rattle.std.specs.List.{AllByRecursion}
 use Rattle.std.proofs.lemmas.Option.{none-some, same_Some}
 use Rattle.rep_model.proofs.Joins.{all-left, all-right}
 use Rattle.rep_op.specs.declared.op.Op.{Op}
-use Rattle.jr_disk.specs.declared.disk.Plan.{Plan as Failure}
+use Rattle.jr_disk.specs.declared.disk.Failure.{Failure}
 use Rattle.gw_answer.specs.declared.out.Out.{Out}
 use Rattle.gw_answer.specs.declared.refusal.Refusal.{Refusal}
 use Rattle.gw_answer.specs.declared.refusal.Refusal.TheVariants as refusals
@@ -16,10 +16,10 @@ use Rattle.gw_event.specs.Gateways.{Gateway}
 use Rattle.gw_event.specs.Event.{OwnStep, TakeStep, StepOf, Event}
 use Rattle.gw_event.specs.Together.{InTurnBy, InTurn, CanWrite, put_by_all, halted_all, AreTorn, StopShort, FailsLast, Together}
 use Rattle.gw_event.proofs.Turns.{turn_one, turn_append, together_told, together_one}
-use Rattle.gw_node.specs.Standing.{fated}
+use Rattle.gw_node.specs.Standing.{with_failure}
 use Rattle.gw_world.specs.declared.event.Call.{Call}
 use Rattle.gw_world.specs.declared.event.Call.TheVariants as calls
-use Rattle.gw_world.specs.Field.{Field, IsAt, changed, IsStepOf, AreStepsOf, AreFed, TogetherAt}
+use Rattle.gw_world.specs.Field.{Field, IsAt, field_changed, IsStepOf, AreStepsOf, AreFed, TogetherAt}
 use Rattle.gw_world.proofs.Consistency.{FlushField, WholeField, IsAtPeace, none-back, call-sound}
 use Rattle.gw_world.proofs.Failures.{can-write}
 use Rattle.gw_world.proofs.InRows.{Answers, at-changed, step-later, steps-later, one-call, turn-fed}
@@ -33,7 +33,7 @@ use Rattle.field_laws.proofs.Rooms.{HasRoom, own-room, take-room}
 abbrev pub PeaceAlong : Gateway → List Step → Type 0
 PeaceAlong gateway [] = Unit {0}
 PeaceAlong gateway (step ∷ rest) =
-    (fate : Option Failure) (answer : Result Out Refusal) (next : Gateway) (made : List (List Op)) → StepOf (fated fate gateway) step answer next made → IsAgreed answer × PeaceAlong next rest
+    (fate : Option Failure) (answer : Result Out Refusal) (next : Gateway) (made : List (List Op)) → StepOf (with_failure fate gateway) step answer next made → IsAgreed answer × PeaceAlong next rest
 
 agreed : (answer : Result Out Refusal) → IsAtPeace answer → IsAgreed answer
 agreed answer peace = λ client e. subst IsAtPeace e peace
@@ -41,14 +41,14 @@ agreed answer peace = λ client e. subst IsAtPeace e peace
 pub peace-along : (field : Field) (s : FlushField field) (w : WholeField field) (n i : ℕ) (g : Gateway) (at : IsAt field n i g) (called : List Call) (more : List Step) → AreStepsOf field called more → PeaceAlong g more
 peace-along field s w n i g at [] [] given = tt
 peace-along field s w n i g at (call ∷ called) (step ∷ more) given = λ fate answer next made does.
-    let f = changed field i (fated fate g) [] in
-    let here = none-back field s w n i g at (fated fate g) (record { config = refl; taken = refl; none = refl }) in
-    let there = at-changed field n i g (fated fate g) [] at refl in
-    let one = one-call f n i (fated fate g) next call step answer made there (step-later field i (fated fate g) [] call step given.0) does in
-    let sound = call-sound f (changed f i next made) n call answer one.0 here.0 here.1 in (
+    let f = field_changed field i (with_failure fate g) [] in
+    let here = none-back field s w n i g at (with_failure fate g) (record { config = refl; taken = refl; none = refl }) in
+    let there = at-changed field n i g (with_failure fate g) [] at refl in
+    let one = one-call f n i (with_failure fate g) next call step answer made there (step-later field i (with_failure fate g) [] call step given.0) does in
+    let sound = call-sound f (field_changed f i next made) n call answer one.0 here.0 here.1 in (
       agreed answer sound.peace.0,
-      peace-along (changed f i next made) sound.flush sound.whole n i next (at-changed f n i (fated fate g) next made there one.1) called more
-          (steps-later f i next made called more (steps-later field i (fated fate g) [] called more given.1)),
+      peace-along (field_changed f i next made) sound.flush sound.whole n i next (at-changed f n i (with_failure fate g) next made there one.1) called more
+          (steps-later f i next made called more (steps-later field i (with_failure fate g) [] called more given.1)),
     )
 peace-along field s w n i g at [] (step ∷ more) given = absurd given
 peace-along field s w n i g at (call ∷ called) [] given = absurd given
@@ -97,9 +97,9 @@ disk-agreed excuse = λ client e. absurd cc
 torn-same : (g : Gateway) (step : Step) (behind : List Step) (a b : Result Out Refusal) (n k : Gateway) → PeaceAlong g (step ∷ behind) → HasRoom g → AreTorn g step a behind n → AreTorn g step b behind k → (a ≡ b) × (n ≡ k)
 torn-same g step behind a b n k p r t u =
     let one = step-one g step (Err (refusals.Disk t.excuse)) (Err (refusals.Disk u.excuse)) t.alone u.alone [] [] t.writing.0 r (disk-agreed t.excuse) (disk-agreed u.excuse) t.does u.does in
-    let calm : PeaceAlong (fated None g) (step ∷ behind) = λ fate answer next made does. p fate answer next made does in
-    let room : HasRoom (fated None g) = record { now = r.now; back = r.back; runs = r.runs } in
-    let would = turn-same (fated None g) (step ∷ behind) t.would u.would t.there u.there t.made u.made t.writing calm room t.led u.led in
+    let calm : PeaceAlong (with_failure None g) (step ∷ behind) = λ fate answer next made does. p fate answer next made does in
+    let room : HasRoom (with_failure None g) = record { now = r.now; back = r.back; runs = r.runs } in
+    let would = turn-same (with_failure None g) (step ∷ behind) t.would u.would t.there u.there t.made u.made t.writing calm room t.led u.led in
     let failure : t.failure ≡ u.failure = same_Some t.failure u.failure (sym t.planned ∙ u.planned) in (
       t.told ∙ one.0 ∙ sym u.told,
       t.halted ∙ (λ i. record g { refused = put_by_all (step ∷ behind) (would.0 i); drive = torn_all (failure i) (put_by_all (step ∷ behind) (would.0 i)) g.drive }) ∙ sym u.halted,
@@ -285,4 +285,4 @@ row-same old s w number called a b new next room at-one h k =
     let given : h.4 ≡ k.4 = all-given old called h.4 k.4 h.6 k.6 in
     let moved : Together h.1 h.4 b k.2 k.3 = subst (λ (x : Gateway). Together x h.4 b k.2 k.3) (sym at.1) (subst (λ (xs : List Step). Together k.1 xs b k.2 k.3) (sym given) k.7) in
     let one = together-same h.1 h.4 a b h.2 k.2 h.3 k.3 (all-write old called h.4 h.6) h.8 k.8 (peace-along old s w number h.0 h.1 h.5 called h.4 h.6) (room h.0 h.1 h.5) h.7 moved in
-    (one.0, h.9 ∙ (λ t. changed old (at.0 t) (one.1 t) (one.2 t)) ∙ sym k.9)
+    (one.0, h.9 ∙ (λ t. field_changed old (at.0 t) (one.1 t) (one.2 t)) ∙ sym k.9)

@@ -4,7 +4,7 @@ use Rattle.std.specs.List.{AllByRecursion}
 use Rattle.std.proofs.lemmas.List.Concat.{flat_map-append}
 use Rattle.std.proofs.lemmas.List.Elements.{All-from_recursion, All-contains, Contains-append_left, Contains-append_right}
 use Rattle.rep_op.specs.declared.op.Op.{Op}
-use Rattle.rep_op.specs.Sets.{operation_at, put_at, is_acknowledged, retain_at, Stands, Within, Same}
+use Rattle.rep_op.specs.Sets.{operation_at, put_at, is_acknowledged, retain_at, HasOperation, Within, Same}
 use Rattle.rep_model.specs.Topics.{all_retained}
 use Rattle.rep_model.proofs.Topics.{all_retained-thin}
 use Rattle.rep_model.proofs.Joins.{all-moved, same-elements, same_sym, same_trans, within-standing}
@@ -23,11 +23,11 @@ use Rattle.gw_answer.specs.declared.refusal.Refusal.{Refusal}
 use Rattle.gw_answer.specs.Answers.{said}
 use Rattle.gw_event.specs.Occasions.{Datagram, Clock}
 use Rattle.gw_event.specs.Gateways.{Gateway}
-use Rattle.gw_world.specs.Field.{Field, new_field, changed, failing, TogetherAt, After, Run, shown}
+use Rattle.gw_world.specs.Field.{Field, new_field, field_changed, failing_gateway, TogetherAt, After, Run, shown}
 use Rattle.gw_world.proofs.InRows.{Answers, CallAt, row-keeps, torn-row-still}
 use Rattle.gw_world.specs.Steps.{restarted}
 use Rattle.gw_event.specs.Event.{TakeStep}
-use Rattle.gw_world.specs.Whole.{listed, everything, HasTakenAll, Arranges, NoneFails}
+use Rattle.gw_world.specs.Whole.{listed, everything, HasTakenAll, ArrangesFailure, NoneFails}
 use Rattle.gw_world.proofs.Consistency.{WholeField, start-taken, field-whole, parts-consistent}
 use Rattle.gw_world.proofs.Failures.{AreWell, after-well, start-well}
 use Rattle.gw_world.proofs.Each.{all-at, all-places, all-each, flat-all, AllOf, EachOf, each-weaken, each-grown}
@@ -54,14 +54,14 @@ module _ (field : Field) (w : AreListed field) (i : ℕ) (old next : Gateway) (m
   still-listed : EachOf (IsListed (field.deltas ++ made)) field.gateways field.deltas
   still-listed = each-weaken (IsListed field.deltas) (IsListed (field.deltas ++ made)) (before-made field.deltas made) field.gateways field.deltas w
 
-  listed-more : (more : List Op) → next.taken ≡ old.taken ++ more → AllByRecursion (IsListed (field.deltas ++ made)) more → AreListed (changed field i next made)
+  listed-more : (more : List Op) → next.taken ≡ old.taken ++ more → AllByRecursion (IsListed (field.deltas ++ made)) more → AreListed (field_changed field i next made)
   listed-more more taken news = each-grown (IsListed (field.deltas ++ made)) field.gateways field.deltas i old next more made is taken news (all-made field.deltas made) still-listed
 
-  listed-moved : Still old next made ⊎ Stepped old next made → AreListed (changed field i next made)
+  listed-moved : Still old next made ⊎ Stepped old next made → AreListed (field_changed field i next made)
   listed-moved (inl u) = listed-more [] (u.taken ∙ sym (append-nil old.taken)) tt
   listed-moved (inr u) = listed-more u.delta u.taken (subst (λ m. AllOf (IsListed (field.deltas ++ made)) m) u.one (all-made field.deltas made)).0
 
-  listed-taken : (k : ℕ) (delta : List Op) → slice_get field.deltas k ≡ Some delta → Still old next made ⊎ Fed old delta next made → AreListed (changed field i next made)
+  listed-taken : (k : ℕ) (delta : List Op) → slice_get field.deltas k ≡ Some delta → Still old next made ⊎ Fed old delta next made → AreListed (field_changed field i next made)
   listed-taken k delta there (inl u) = listed-moved (inl u)
   listed-taken k delta there (inr u) = listed-more delta u.taken (all-at (λ (D : List Op). AllByRecursion (IsListed (field.deltas ++ made)) D) field.deltas k delta still-listed.lists there)
 
@@ -93,7 +93,7 @@ after-listed old (Take number delta) (Node answer) new h well w = call-listed ol
 after-listed old (AtOnce number calls) (Row answers) new h well w = row-listed old new number calls (map said answers) h w
 after-listed old (Asks number peer) (Node answer) new h well w = subst AreListed (sym h.8) (listed-joined old w h.4)
 after-listed old (WriteFails number bytes sync) Nothing new h well w =
-    subst AreListed (sym h.3) (listed-moved old w h.0 h.1 (failing bytes sync h.1) [] h.2.1 (inl (record { config = refl; taken = refl; none = refl })))
+    subst AreListed (sym h.3) (listed-moved old w h.0 h.1 (failing_gateway bytes sync h.1) [] h.2.1 (inl (record { config = refl; taken = refl; none = refl })))
 after-listed old (Compact number) (Node answer) new h well w =
     subst AreListed (sym h.5) (listed-moved old w h.0 h.1 h.2 [] h.3.1 (inl (compact-still h.1 h.2 (said answer) h.4)))
 after-listed old (Restart number kept) (Records count) new h well w =
@@ -136,7 +136,7 @@ after-listed old (Compact number) (Row answers) new h well w = absurd h
 after-listed old (Restart number kept) (Row answers) new h well w = absurd h
 after-listed old (Show number) (Row answers) new h well w = absurd h
 
-run-listed : (old : Field) (events : List Event) (answers : List Answer) (new : Field) → Run old events answers new → AllByRecursion (λ event. ¬ (Arranges event)) events → AreWell old → AreListed old → AreListed new
+run-listed : (old : Field) (events : List Event) (answers : List Answer) (new : Field) → Run old events answers new → AllByRecursion (λ event. ¬ (ArrangesFailure event)) events → AreWell old → AreListed old → AreListed new
 run-listed old [] [] new h never well w = subst AreListed (sym h) w
 run-listed old (event ∷ events) (answer ∷ answers) new h never well w =
     run-listed h.0 events answers new h.2 never.1 (after-well old event answer h.0 h.1 never.0 well) (after-listed old event answer h.0 h.1 well w)
@@ -151,7 +151,7 @@ start-listed configs = record {
 
 pub field-listed : (configs : List Config) (events : List Event) (answers : List Answer) (field : Field) (gateway : Gateway) (op : Op) → Run (new_field configs) events answers field → NoneFails events → Contains field.gateways gateway → Contains gateway.taken op → Contains (listed field) op
 field-listed configs events answers field gateway op h none in_field there =
-    let w = run-listed (new_field configs) events answers field h (all-moved (λ (event : Event). ¬ (Arranges event)) events none) (start-well configs) (start-listed configs) in
+    let w = run-listed (new_field configs) events answers field h (all-moved (λ (event : Event). ¬ (ArrangesFailure event)) events none) (start-well configs) (start-listed configs) in
     let all = All-contains (λ (g : Gateway). AllByRecursion (IsListed field.deltas) g.taken) field.gateways gateway
     (All-from_recursion (λ (g : Gateway). AllByRecursion (IsListed field.deltas) g.taken) field.gateways (all-places (λ (g : Gateway). AllByRecursion (IsListed field.deltas) g.taken) field.gateways w.sets)) in_field in
     All-contains (IsListed field.deltas) gateway.taken op (All-from_recursion (IsListed field.deltas) gateway.taken all) there
@@ -194,7 +194,7 @@ same-within A B f g = record {
 -- of parts of a field, that which has all operations of another has what stands in it
 pub parts-within : (field : Field) → WholeField field → (part other : List Op) → ((op : Op) → Contains part op → Contains (everything field) op) → ((op : Op) → Contains other op → Contains part op) → Within other part
 parts-within field w part other inside f =
-    within-standing part other (all-moved (Stands part) other (λ op h. All-contains (Stands part) part op (All-from_recursion (Stands part) part (parts-consistent field w part inside)) (f op h)))
+    within-standing part other (all-moved (HasOperation part) other (λ op h. All-contains (HasOperation part) part op (All-from_recursion (HasOperation part) part (parts-consistent field w part inside)) (f op h)))
 
 module _ (configs : List Config) (events : List Event) (answers : List Answer) (field : Field) (h : Run (new_field configs) events answers field) (gateway : Gateway) (in_field : Contains field.gateways gateway) where
   list-inside : (op : Op) → Contains (listed field) op → Contains (everything field) op

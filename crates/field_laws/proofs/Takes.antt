@@ -20,7 +20,7 @@ use Rattle.gw_event.specs.Gateways.{Gateway, new_gateway}
 use Rattle.gw_answer.specs.declared.out.Out.{Out}
 use Rattle.gw_answer.specs.declared.refusal.Refusal.{Refusal}
 use Rattle.gw_event.specs.Drives.{left_by, more_records}
-use Rattle.gw_world.specs.Field.{Field, new_field, failing, TogetherAt, After, Run}
+use Rattle.gw_world.specs.Field.{Field, new_field, failing_gateway, TogetherAt, After, Run}
 use Rattle.gw_world.proofs.InRows.{Answers, CallAt, torn-row-still}
 use Rattle.gw_node.specs.Keeping.{Keeps}
 use Rattle.field_laws.specs.Takes.{IsTakeAtZero}
@@ -105,7 +105,7 @@ after-takes old (Take number delta) (Node answer) new h s w d all = call-takes o
 after-takes old (AtOnce number calls) (Row answers) new h s w d all = row-takes old new number calls (map said answers) h s w all
 after-takes old (Asks number peer) (Node answer) new h s w d all = subst TakesField (sym h.8) all
 after-takes old (WriteFails number bytes sync) Nothing new h s w d all =
-    subst TakesField (sym h.3) (same-set old.gateways h.0 h.1 (failing bytes sync h.1) h.2.1 refl all)
+    subst TakesField (sym h.3) (same-set old.gateways h.0 h.1 (failing_gateway bytes sync h.1) h.2.1 refl all)
 after-takes old (Compact number) (Node answer) new h s w d all =
     subst TakesField (sym h.5) (same-set old.gateways h.0 h.1 h.2 h.3.1 (compact-still h.1 h.2 (said answer) h.4).taken all)
 after-takes old (Restart number kept) (Records count) new h s w d all =

@@ -18,11 +18,11 @@ use Rattle.gw_event.specs.Occasions.{Datagram, Clock}
 use Rattle.gw_event.specs.Gateways.{Gateway}
 use Rattle.sn_local.specs.declared.config.Config.{Config}
 use Rattle.gw_event.specs.Drives.{left_by, more_records}
-use Rattle.gw_world.specs.Field.{Field, new_field, IsAt, changed, failing, TogetherAt, After, Run, gateway_of}
+use Rattle.gw_world.specs.Field.{Field, new_field, IsAt, field_changed, failing_gateway, TogetherAt, After, Run, gateway_of_event}
 use Rattle.gw_world.proofs.InRows.{Answers, CallAt, row-keeps, torn-row-still}
 use Rattle.gw_world.specs.Steps.{AnswerStep, restarted}
 use Rattle.gw_event.specs.Event.{TakeStep}
-use Rattle.gw_world.specs.Whole.{everything, number_of}
+use Rattle.gw_world.specs.Whole.{everything, maker_of}
 use Rattle.gw_world.proofs.Answering.{answered, all-answered}
 use Rattle.gw_world.proofs.Each.{all-at, EachOf, each-weaken, each-grown, each-all, all-each}
 use Rattle.gw_world.proofs.Numbers.{place_of-first, first-number}
@@ -33,7 +33,7 @@ use Rattle.gw_world.proofs.Whole.{own-number}
 
 -- it stood in the field before, or it is under the number
 abbrev pub IsBeforeOrOf : Field → ℕ → Op → Type 0
-IsBeforeOrOf field n op = Contains (everything field) op ⊎ IfSome (number_of op) (λ m. m ≡ n)
+IsBeforeOrOf field n op = Contains (everything field) op ⊎ IfSome (maker_of op) (λ m. m ≡ n)
 
 module _ (field : Field) (n : ℕ) where
   abbrev pub HasWritten : Field → Type 0
@@ -44,26 +44,26 @@ module _ (field : Field) (n : ℕ) where
       (all-each (Contains (everything field)) field (all-moved (Contains (everything field)) (everything field) (λ op h. h)))
 
   module _ (i : ℕ) (old next : Gateway) (made : List (List Op)) (at : IsAt field n i old) where
-    written-more : (more : List Op) → next.taken ≡ old.taken ++ more → made ≡ [] → AllByRecursion (IsBeforeOrOf field n) more → HasWritten (changed field i next made)
+    written-more : (more : List Op) → next.taken ≡ old.taken ++ more → made ≡ [] → AllByRecursion (IsBeforeOrOf field n) more → HasWritten (field_changed field i next made)
     written-more more taken none news =
         subst (λ m. EachOf (IsBeforeOrOf field n) (set field.gateways i next) (field.deltas ++ m)) (sym none)
         (each-grown (IsBeforeOrOf field n) field.gateways field.deltas i old next more [] at.1 taken news tt before)
 
-    written-still : Still old next made → HasWritten (changed field i next made)
+    written-still : Still old next made → HasWritten (field_changed field i next made)
     written-still u = written-more [] (u.taken ∙ sym (append-nil old.taken)) u.none tt
 
-    written-stepped : Stepped old next made → HasWritten (changed field i next made)
+    written-stepped : Stepped old next made → HasWritten (field_changed field i next made)
     written-stepped u =
         let number : old.config.gateway ≡ n = first-number n i field.gateways old (place_of-first n i field.gateways at.0) at.1 in
-        let news : AllByRecursion (IsBeforeOrOf field n) u.delta = all-moved (IsBeforeOrOf field n) u.delta (λ op h. inr (subst (λ k. IfSome (number_of op) (λ m. m ≡ k)) number (own-number old next made u op h))) in
+        let news : AllByRecursion (IsBeforeOrOf field n) u.delta = all-moved (IsBeforeOrOf field n) u.delta (λ op h. inr (subst (λ k. IfSome (maker_of op) (λ m. m ≡ k)) number (own-number old next made u op h))) in
         subst (λ m. EachOf (IsBeforeOrOf field n) (set field.gateways i next) (field.deltas ++ m)) (sym u.one)
         (each-grown (IsBeforeOrOf field n) field.gateways field.deltas i old next u.delta (u.delta ∷ []) at.1 u.taken news (news, tt) before)
 
-    written-moved : Still old next made ⊎ Stepped old next made → HasWritten (changed field i next made)
+    written-moved : Still old next made ⊎ Stepped old next made → HasWritten (field_changed field i next made)
     written-moved (inl u) = written-still u
     written-moved (inr u) = written-stepped u
 
-    written-taken : (k : ℕ) (delta : List Op) → slice_get field.deltas k ≡ Some delta → Still old next made ⊎ Fed old delta next made → HasWritten (changed field i next made)
+    written-taken : (k : ℕ) (delta : List Op) → slice_get field.deltas k ≡ Some delta → Still old next made ⊎ Fed old delta next made → HasWritten (field_changed field i next made)
     written-taken k delta there (inl u) = written-still u
     written-taken k delta there (inr u) = written-more delta u.taken u.none (all-at (λ (D : List Op). AllByRecursion (IsBeforeOrOf field n) D) field.deltas k delta before.lists there)
 
@@ -73,10 +73,10 @@ module _ (field : Field) (n : ℕ) where
       let one : Gateway = record old { taken = taken } in
       let stepped : Stepped one (record old { taken = taken ++ delta }) (delta ∷ []) = record { plan = d.plan; drafted = d.drafted; delta = delta; proper = d.proper; same = d.same; config = refl; taken = refl; one = refl } in
       let number : old.config.gateway ≡ n = first-number n i field.gateways old (place_of-first n i field.gateways at.0) at.1 in
-      all-moved (IsBeforeOrOf field n) delta (λ op h. inr (subst (λ k. IfSome (number_of op) (λ m. m ≡ k)) number (own-number one (record old { taken = taken ++ delta }) (delta ∷ []) stepped op h)))
+      all-moved (IsBeforeOrOf field n) delta (λ op h. inr (subst (λ k. IfSome (maker_of op) (λ m. m ≡ k)) number (own-number one (record old { taken = taken ++ delta }) (delta ∷ []) stepped op h)))
   refused-of i old at taken delta (inr (k, there)) = all-at (λ (D : List Op). AllByRecursion (IsBeforeOrOf field n) D) field.deltas k delta before.lists there
 
-  written-back : (i kept : ℕ) (old : Gateway) → IsAt field n i old → DueAs field.deltas old → HasWritten (changed field i (restarted kept old) [])
+  written-back : (i kept : ℕ) (old : Gateway) → IsAt field n i old → DueAs field.deltas old → HasWritten (field_changed field i (restarted kept old) [])
   written-back i kept old at d =
       let fed = restart-feeds kept old in
       written-more i old (restarted kept old) [] at (came-back kept old) fed.taken refl
@@ -109,11 +109,11 @@ call-written old new number (calls.Take delta) answer h =
 row-written : (old new : Field) (number : ℕ) (called : List Call) (answers : Answers) → TogetherAt old number called answers new → HasWritten old number new
 row-written old new number called answers h =
     row-keeps (HasWritten old number) number (λ mid after call answer one first. written-then old mid after number first (call-written mid after number call answer one))
-    (λ field i gateway next behind step answer more at is t first. written-then old field (changed field i next []) number first
+    (λ field i gateway next behind step answer more at is t first. written-then old field (field_changed field i next []) number first
     (written-still field number i gateway next [] at (torn-row-still gateway next step answer more t)))
     old new called answers h (before old number)
 
-after-written : (old new : Field) (event : Event) (answer : Answer) → After old event answer new → DueField old → HasWritten old (gateway_of event) new
+after-written : (old new : Field) (event : Event) (answer : Answer) → After old event answer new → DueField old → HasWritten old (gateway_of_event event) new
 after-written old new (Frame number from bytes now) (Node answer) h d = call-written old new number (calls.Frame from bytes now) (said answer) h
 after-written old new (Tick number now) (Node answer) h d = call-written old new number (calls.Tick now) (said answer) h
 after-written old new (Take number delta) (Node answer) h d = call-written old new number (calls.Take delta) (said answer) h
@@ -121,7 +121,7 @@ after-written old new (AtOnce number calls) (Row answers) h d = row-written old 
 after-written old new (Asks number peer) (Node answer) h d =
     subst (HasWritten old number) (sym h.8) (written-asked old number h.1 h.2 h.3 (said answer) h.4 h.6.1 h.7)
 after-written old new (WriteFails number bytes sync) Nothing h d =
-    subst (HasWritten old number) (sym h.3) (written-still old number h.0 h.1 (failing bytes sync h.1) [] h.2 (record { config = refl; taken = refl; none = refl }))
+    subst (HasWritten old number) (sym h.3) (written-still old number h.0 h.1 (failing_gateway bytes sync h.1) [] h.2 (record { config = refl; taken = refl; none = refl }))
 after-written old new (Compact number) (Node answer) h d =
     subst (HasWritten old number) (sym h.5) (written-still old number h.0 h.1 h.2 [] h.3 (compact-still h.1 h.2 (said answer) h.4))
 after-written old new (Restart number kept) (Records count) h d =
@@ -164,11 +164,11 @@ after-written old new (Compact number) (Row answers) h d = absurd h
 after-written old new (Restart number kept) (Row answers) h d = absurd h
 after-written old new (Show number) (Row answers) h d = absurd h
 
-pub after-writes : (old new : Field) (event : Event) (answer : Answer) (op : Op) → DueField old → After old event answer new → Contains (everything new) op → Contains (everything old) op ⊎ IfSome (number_of op) (λ number. number ≡ gateway_of event)
+pub after-writes : (old new : Field) (event : Event) (answer : Answer) (op : Op) → DueField old → After old event answer new → Contains (everything new) op → Contains (everything old) op ⊎ IfSome (maker_of op) (λ number. number ≡ gateway_of_event event)
 after-writes old new event answer op d h there =
-    All-contains (IsBeforeOrOf old (gateway_of event)) (everything new) op
-    (All-from_recursion (IsBeforeOrOf old (gateway_of event)) (everything new) (each-all (IsBeforeOrOf old (gateway_of event)) new (after-written old new event answer h d))) there
+    All-contains (IsBeforeOrOf old (gateway_of_event event)) (everything new) op
+    (All-from_recursion (IsBeforeOrOf old (gateway_of_event event)) (everything new) (each-all (IsBeforeOrOf old (gateway_of_event event)) new (after-written old new event answer h d))) there
 
 pub field-writes : (configs : List Config) (events : List Event) (answers : List Answer) (old new : Field) (event : Event) (answer : Answer) (op : Op) → Run (new_field configs) events answers old
-    → After old event answer new → Contains (everything new) op → Contains (everything old) op ⊎ IfSome (number_of op) (λ number. number ≡ gateway_of event)
+    → After old event answer new → Contains (everything new) op → Contains (everything old) op ⊎ IfSome (maker_of op) (λ number. number ≡ gateway_of_event event)
 field-writes configs events answers old new event answer op run h there = after-writes old new event answer op (field-sound configs events answers old run).due h there

@@ -7,7 +7,7 @@ ghost use Rattle.gw_world.specs.declared.event.Answer.{Answer};
 ghost use Rattle.gw_world.specs.declared.world.WorldFault.{WorldFault};
 ghost use Rattle.gw_world.specs.declared.world.WorldFault.TheVariants as stops;
 ghost use Rattle.gw_world.specs.Field.{Field, new_field, Run};
-ghost use Rattle.gw_world.specs.Telling.{told};
+ghost use Rattle.gw_world.specs.Telling.{answer_value};
 ghost use Rattle.gw_world.specs.Worlds.{IsStop};
 
 /// Nothing but the events fixes a run. Two runs of the same events from the same configs say the
@@ -18,7 +18,7 @@ pub fn one_run()
     ensures one { (configs : List Config) (events : List Event) (answers others : List Answer)
         (one other : Field)
         → Run (new_field configs) events answers one → Run (new_field configs) events others other
-        → (map told answers ≡ map told others) × (one ≡ other) }
+        → (map answer_value answers ≡ map answer_value others) × (one ≡ other) }
     ensures stop { (configs : List Config) (events : List Event) (one other : WorldFault)
         → IsStop configs events one → IsStop configs events other → one ≢ stops.Memory
         → other ≢ stops.Memory → one ≡ other }

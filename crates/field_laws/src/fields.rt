@@ -37,11 +37,11 @@ ghost use Rattle.gw_answer.specs.declared.fault.NodeFault.TheVariants as faults;
 ghost use Rattle.gw_answer.specs.declared.refusal.Refusal.TheVariants as refusals;
 ghost use Rattle.gw_event.specs.Occasions.{Occasion};
 ghost use Rattle.gw_event.specs.Gateways.{Gateway};
-ghost use Rattle.gw_world.specs.Field.{Field, new_field, IsAt, IsDeltaAt, After, Run, gateway_of, peer_of, shown, by_itself, AreFieldsAlike};
+ghost use Rattle.gw_world.specs.Field.{Field, new_field, IsAt, IsDeltaAt, After, Run, gateway_of_event, peer_of, shown, by_itself, AreFieldsAlike};
 ghost use Rattle.gw_world.specs.Steps.{AnswerStep};
 ghost use Rattle.gw_event.specs.Event.{IsPlan, OwnStep, TakeStep, IsWritable};
 ghost use Rattle.gw_world.specs.Steady.{IsSteady};
-ghost use Rattle.gw_world.specs.Whole.{listed, everything, number_of, IsHome, AreMadeOnce, made_by, MayMake, NoneFails, told, brought, HasTakenAll};
+ghost use Rattle.gw_world.specs.Whole.{listed, everything, maker_of, IsAtOrigin, AreMadeOnce, made_by, MayMake, NoneFails, all_made, brought, HasTakenAll};
 ghost use Rattle.field_laws.specs.Settings.{settings};
 
 /// No message vanishes. What a gateway has taken it keeps: its set only grows, whatever comes and
@@ -143,22 +143,22 @@ pub fn consistent_field()
 pub fn made_once()
     ensures home { (configs : List Config) (events : List Event) (answers : List Answer)
         (field : Field) (op : Op) → Run (new_field configs) events answers field
-        → Contains (everything field) op → IsHome field op }
+        → Contains (everything field) op → IsAtOrigin field op }
     ensures writes { (configs : List Config) (events : List Event) (answers : List Answer)
         (old new : Field) (event : Event) (answer : Answer) (op : Op)
         → Run (new_field configs) events answers old → After old event answer new
         → Contains (everything new) op
         → Contains (everything old) op
-        ⊎ IfSome (number_of op) (λ number. number ≡ gateway_of event) }
+        ⊎ IfSome (maker_of op) (λ number. number ≡ gateway_of_event event) }
     ensures once { (configs : List Config) (events : List Event) (answers : List Answer)
         (field : Field)
-        → Run (new_field configs) events answers field → AreMadeOnce (told answers) }
+        → Run (new_field configs) events answers field → AreMadeOnce (all_made answers) }
     ensures makes { (old new : Field) (event : Event) (answer : Answer) (delta : List Op)
         → After old event answer new → Contains (made_by answer) delta → MayMake event }
     ensures told { (configs : List Config) (events : List Event) (answers : List Answer)
         (field : Field) (op : Op) → Run (new_field configs) events answers field → NoneFails events
         → Contains (everything field) op
-        → IfSome (number_of op) (λ number. Contains (all_of (told answers)) op) }
+        → IfSome (maker_of op) (λ number. Contains (all_of (all_made answers)) op) }
     ensures list { (configs : List Config) (events : List Event) (answers : List Answer)
         (field : Field) → Run (new_field configs) events answers field
         → field.deltas ≡ brought answers }

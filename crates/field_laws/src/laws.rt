@@ -9,7 +9,7 @@ ghost use Rattle.sn_session.specs.declared.change.SessionOp.{SessionOp};
 ghost use Rattle.rep_op.specs.declared.op.Stamp.{Stamp};
 ghost use Rattle.rep_op.specs.declared.op.Op.{Op};
 ghost use Rattle.rep_op.specs.declared.op.Op.TheVariants.{Session as OfSession};
-ghost use Rattle.rep_ops.specs.Making.{AreApart};
+ghost use Rattle.rep_ops.specs.Making.{HaveOwnNames};
 ghost use Rattle.rep_op.specs.Sets.{operation_at};
 ghost use Rattle.sn_local.specs.declared.config.Addr.{Addr};
 ghost use Rattle.sn_local.specs.declared.config.Config.{Config};
@@ -29,9 +29,9 @@ ghost use Rattle.gw_world.specs.declared.event.Answer.{Answer};
 ghost use Rattle.gw_world.specs.declared.event.Answer.TheVariants.{Node};
 ghost use Rattle.gw_world.specs.Events.{answered_of};
 ghost use Rattle.gw_event.specs.Gateways.{Gateway, with_refused};
-ghost use Rattle.gw_world.specs.Field.{Field, new_field, IsAt, After, Run, gateway_of};
+ghost use Rattle.gw_world.specs.Field.{Field, new_field, IsAt, After, Run, gateway_of_event};
 ghost use Rattle.gw_node.specs.Keeping.{Keeps};
-ghost use Rattle.gw_node.specs.Taking.{StandsFor};
+ghost use Rattle.gw_node.specs.Taking.{RecoversTo};
 ghost use Rattle.jr_disk.specs.Disk.{Image};
 ghost use Rattle.rep_model.specs.Views.{view};
 ghost use Rattle.gw_world.specs.Whole.{made_by};
@@ -52,7 +52,7 @@ pub fn own_plans()
         (field : Field) (number i : ℕ) (gateway : Gateway) (occasion : Occasion) (now : ℕ)
         (plan : Plan) → AreNumbered configs → Run (new_field configs) events answers field
         → IsAt field number i gateway → IsPlan gateway occasion now (Some plan)
-        → AreApart plan.ops }
+        → HaveOwnNames plan.ops }
 {}
 
 /// In every run Full of what a gateway made itself means that a limit would be passed, or that the
@@ -110,9 +110,9 @@ pub fn stored()
         (answers replies : List Answer) (old mid new : Field) (event : Event) (answer : Answer)
         (delta : List Op) (i : ℕ) (maker later : Gateway) (n : ℕ) (image : Image)
         → Run (new_field configs) events answers old → After old event answer mid
-        → Contains (made_by answer) delta → IsAt old (gateway_of event) i maker
+        → Contains (made_by answer) delta → IsAt old (gateway_of_event event) i maker
         → Run mid more replies new → slice_get new.gateways i ≡ Some later
-        → StandsFor later.config.gateway (with_refused n later.taken later.refused) [] image
+        → RecoversTo later.config.gateway (with_refused n later.taken later.refused) [] image
         → HasStored later.config.gateway image delta }
     ensures answered { (more : List Event) (replies : List Answer) (old mid new : Field)
         (number other : ℕ) (answer : Result (Arc Out Global) NodeFault) (delta : List Op) (i : ℕ)
@@ -120,6 +120,6 @@ pub fn stored()
         → After old (Asks number other) (Node answer) mid
         → Contains (answered_of (said answer)) delta → IsAt old other i peer
         → Run mid more replies new → slice_get new.gateways i ≡ Some later
-        → StandsFor later.config.gateway (with_refused n later.taken later.refused) [] image
+        → RecoversTo later.config.gateway (with_refused n later.taken later.refused) [] image
         → HasStored later.config.gateway image delta }
 {}

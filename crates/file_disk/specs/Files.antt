@@ -16,16 +16,16 @@ abbrev pub IsCertain : FileState → Type 0
 IsCertain s = (s.loose ≡ false) × (s.doubted ≡ false)
 
 -- the file has more octets at its end, which are not synced
-abbrev pub grown : FileState → List ℕ → FileState
-grown s bytes = record s { octets = appended s.octets bytes }
+abbrev pub file_grown : FileState → List ℕ → FileState
+file_grown s bytes = record s { octets = appended s.octets bytes }
 
 -- the file is cut to its first `len` octets, and that is not settled
 abbrev pub shortened : FileState → ℕ → FileState
 shortened s len = record s { octets = cut_to s.octets len; loose = true }
 
 -- its length is settled, for good; where it has no octets nothing is left to doubt
-abbrev pub settled : FileState → FileState
-settled s =
+abbrev pub file_settled : FileState → FileState
+file_settled s =
     record s {
       loose = false;
       doubted = if nat_lt 0 (length (bytes_of s.octets)) then s.doubted else false;

@@ -2,7 +2,7 @@
 
 ghost use Rattle.std.specs.Prelude.{ℕ, ◌≡◌, ◌≢◌, ◌≤◌, ◌⊎◌, List, length, take, min, OnOk, OnErr, IfErr};
 ghost use Rattle.jr_disk.specs.Disk.{SlotBytes, bytes_of, appended, all_synced, cut_to};
-ghost use Rattle.file_disk.specs.Files.{grown};
+ghost use Rattle.file_disk.specs.Files.{file_grown};
 ghost use Rattle.file_disk.specs.inner.Cutting.{IsTrusted, IsShortened};
 
 use crate::file::{FileFault, SlotFile};
@@ -34,7 +34,8 @@ pub(crate) enum Shortened {
 /// Writes from the front as far as it goes, and says how far.
 pub(crate) fn write_front<F: SlotFile>(file: &mut F, bytes: &[u8]) -> usize
     ensures within { result ≤ length bytes.now }
-    ensures grown { F.honest → F.state file.new ≡ grown (F.state file.old) (take result bytes.now) }
+    ensures grown { F.honest
+        → F.state file.new ≡ file_grown (F.state file.old) (take result bytes.now) }
 {
     let mut written = 0;
     while written < bytes.len() {
@@ -50,7 +51,8 @@ pub(crate) fn write_front<F: SlotFile>(file: &mut F, bytes: &[u8]) -> usize
 /// Writes once: how many of the octets went out, none where the write failed.
 fn write_once<F: SlotFile>(file: &mut F, bytes: &[u8]) -> usize
     ensures within { result ≤ length bytes.now }
-    ensures grown { F.honest → F.state file.new ≡ grown (F.state file.old) (take result bytes.now) }
+    ensures grown { F.honest
+        → F.state file.new ≡ file_grown (F.state file.old) (take result bytes.now) }
 {
     match file.add(bytes) {
         Ok(size) => size,

@@ -12,7 +12,7 @@ pub struct FileFault;
 pub trait SlotFile {
     ghost use Rattle.std.specs.Prelude.{ℕ, ◌≡◌, ◌≤◌, ◌+◌, length, take, drop, OnOk, OnErr, IfOk};
     ghost use Rattle.jr_disk.specs.Disk.{bytes_of};
-    ghost use Rattle.file_disk.specs.Files.{FileState, IsCertain, grown, shortened, settled, synced, suspected};
+    ghost use Rattle.file_disk.specs.Files.{FileState, IsCertain, file_grown, shortened, file_settled, synced, suspected};
 
     /// The file does what the clauses under this premise say.
     ghost honest: { Type 0 };
@@ -35,7 +35,7 @@ pub trait SlotFile {
     fn add(&mut self, bytes: &[u8]) -> Result<usize, FileFault>
         ensures within { IfOk result (λ n. n ≤ length bytes.now) }
         ensures ok { honest → IfOk result (λ n. state self.new
-            ≡ grown (state self.old) (take n bytes.now)) }
+            ≡ file_grown (state self.old) (take n bytes.now)) }
         ensures err { honest → OnErr result (state self.new ≡ state self.old) };
 
     /// Cuts the file to a length that it has. Until that is settled, a crash may leave the file as
@@ -47,7 +47,7 @@ pub trait SlotFile {
 
     /// Makes its length durable.
     fn settle(&mut self) -> Result<(), FileFault>
-        ensures ok { honest → OnOk result (state self.new ≡ settled (state self.old)) }
+        ensures ok { honest → OnOk result (state self.new ≡ file_settled (state self.old)) }
         ensures err { honest → OnErr result (state self.new ≡ suspected (state self.old)) };
 
     /// Makes its octets durable, where nothing is in doubt. Where a sync of it failed before, this

@@ -11,15 +11,15 @@ use Rattle.gw_answer.specs.declared.refusal.Refusal.{Refusal}
 use Rattle.gw_answer.specs.declared.refusal.Refusal.TheVariants as refusals
 
 -- a refusal by its value, whoever has a share of it
-abbrev pub told : NodeFault → Refusal
-told (faults.Frame fault) = refusals.Frame fault
-told faults.Halted = refusals.Halted
-told (faults.Disk out) = refusals.Disk (arc_value out)
-told (faults.Conflict of) = refusals.Conflict of
-told faults.Full = refusals.Full
-told faults.Exhausted = refusals.Exhausted
-told (faults.Journal fault) = refusals.Journal fault
-told faults.Memory = refusals.Memory
+abbrev pub refusal_of_fault : NodeFault → Refusal
+refusal_of_fault (faults.Frame fault) = refusals.Frame fault
+refusal_of_fault faults.Halted = refusals.Halted
+refusal_of_fault (faults.Disk out) = refusals.Disk (arc_value out)
+refusal_of_fault (faults.Conflict of) = refusals.Conflict of
+refusal_of_fault faults.Full = refusals.Full
+refusal_of_fault faults.Exhausted = refusals.Exhausted
+refusal_of_fault (faults.Journal fault) = refusals.Journal fault
+refusal_of_fault faults.Memory = refusals.Memory
 
 -- the number by which programs print a refusal, with an `N` in front of it
 abbrev pub refusal_number : Refusal → ℕ
@@ -35,7 +35,7 @@ refusal_number (refusals.Journal fault) = 8
 -- an answer by its value, whoever has a share of it
 abbrev pub said : Result (Arc Out Global) NodeFault → Result Out Refusal
 said (Ok out) = Ok (arc_value out)
-said (Err fault) = Err (told fault)
+said (Err fault) = Err (refusal_of_fault fault)
 
 -- an answer that sends these datagrams and says nothing else
 abbrev pub only_sends : List Send → Out

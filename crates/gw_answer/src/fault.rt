@@ -1,7 +1,7 @@
 //! Why a node refuses.
 
 ghost use Rattle.std.specs.Prelude.{◌≡◌};
-ghost use Rattle.gw_answer.specs.Answers.{told, refusal_number};
+ghost use Rattle.gw_answer.specs.Answers.{refusal_of_fault, refusal_number};
 
 use super::out::Out;
 use jr_journal::JournalFault;
@@ -77,7 +77,7 @@ impl fmt::Display for NodeFault {
 impl NodeFault {
     /// The number by which programs tell it, from 1 to 8: 3 is told as `N3`.
     pub fn number(&self) -> u8
-        ensures { result ≡ refusal_number (told self.now) }
+        ensures { result ≡ refusal_number (refusal_of_fault self.now) }
     {
         match self {
             NodeFault::Frame { .. } => 1,

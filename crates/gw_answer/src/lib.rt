@@ -3,7 +3,7 @@
 //! What a call answers (`Answer`) is shared and not copied: the caller, a history and a printer may
 //! each hold a share of one answer. Shares are taken before the journal is written, so that nothing
 //! after the write can want memory. Contracts see an answer's value, whoever has a share of it
-//! (`said`, `told`).
+//! (`said`, `refusal_of_fault`).
 //!
 //! - `step`: a call, with its arguments (`Step`).
 //! - `out`: what is answered (`Out`).

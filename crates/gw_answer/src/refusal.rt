@@ -1,7 +1,7 @@
 //! Why a node refuses, with three shares of what is answered.
 
 ghost use Rattle.std.specs.Prelude.{◌≡◌, Ok, Err};
-ghost use Rattle.gw_answer.specs.Answers.{told, said};
+ghost use Rattle.gw_answer.specs.Answers.{refusal_of_fault, said};
 ghost use Rattle.gw_answer.specs.declared.refusal.Refusal.TheVariants.{Memory};
 
 use super::fault::NodeFault;
@@ -81,7 +81,7 @@ fn same_fault(fault: &FrameFault) -> FrameFault
 impl Refusal {
     /// The refusal, with one share of its answer.
     pub fn into_one(self) -> NodeFault
-        ensures { told result ≡ self }
+        ensures { refusal_of_fault result ≡ self }
     {
         match self {
             Refusal::Frame { fault } => NodeFault::Frame { fault },
@@ -99,9 +99,9 @@ impl Refusal {
 
     /// The refusal three times, with one share of its answer each.
     fn into_three(self) -> (NodeFault, NodeFault, NodeFault)
-        ensures first { told result.0 ≡ self }
-        ensures second { told result.1 ≡ self }
-        ensures third { told result.2 ≡ self }
+        ensures first { refusal_of_fault result.0 ≡ self }
+        ensures second { refusal_of_fault result.1 ≡ self }
+        ensures third { refusal_of_fault result.2 ≡ self }
     {
         match self {
             Refusal::Frame { fault } => (

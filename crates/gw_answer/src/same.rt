@@ -2,7 +2,7 @@
 //! by the answer: it says whether contracts see one value.
 
 ghost use Rattle.std.specs.Prelude.{◌≡◌, ◌↔◌, IsTrue};
-ghost use Rattle.gw_answer.specs.Answers.{told, said};
+ghost use Rattle.gw_answer.specs.Answers.{refusal_of_fault, said};
 
 use super::fault::NodeFault;
 use super::refusal::Answer;
@@ -67,7 +67,7 @@ fn same_journal_fault(a: &JournalFault, b: &JournalFault) -> bool
 
 /// Whether two faults are equal.
 fn same_fault(a: &NodeFault, b: &NodeFault) -> bool
-    ensures { IsTrue result ↔ (told a.now ≡ told b.now) }
+    ensures { IsTrue result ↔ (refusal_of_fault a.now ≡ refusal_of_fault b.now) }
 {
     match (a, b) {
         (NodeFault::Frame { fault: x }, NodeFault::Frame { fault: y }) => same_frame_fault(x, y),

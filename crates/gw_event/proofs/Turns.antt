@@ -7,7 +7,7 @@ use Rattle.std.proofs.lemmas.List.Concat.{flat_map-append}
 use Rattle.std.proofs.lemmas.Option.{same_Some}
 use Rattle.rep_op.specs.declared.op.Op.{Op}
 use Rattle.rep_ops.specs.Splitting.{all_of}
-use Rattle.jr_disk.specs.declared.disk.Plan.{Plan}
+use Rattle.jr_disk.specs.declared.disk.Failure.{Failure}
 use Rattle.jr_journal.specs.Arranged.{after_append}
 use Rattle.jr_journal.specs.Records.{written}
 use Rattle.sn_local.specs.declared.config.Addr.{Addr}
@@ -110,7 +110,7 @@ together_told old new calls answers made (inl h) = (new, h.0, record { config = 
 together_told old new calls answers made (inr h) = short_told old new calls answers made h
 
 -- a disk that fails as one delta is written
-pub torn_one : (plan : Plan) (delta : List Op) (drive : Drive) → torn_all plan (delta ∷ []) drive ≡ torn plan delta drive
+pub torn_one : (plan : Failure) (delta : List Op) (drive : Drive) → torn_all plan (delta ∷ []) drive ≡ torn plan delta drive
 torn_one plan delta drive = λ i. record drive { slots = after_append (Some plan) drive.slots drive.slot (append-nil (written delta) i); halted = true; plan = None }
 
 -- ---- one call
@@ -173,7 +173,7 @@ torn_same old new call answer t =
     let one : put_by_all (call ∷ []) t.would ≡ delta ∷ [] = put ∙ ap (λ (ds : List (List Op)). delta ∷ ds) none in
     let failure : own.1.failure ≡ t.failure = same_Some own.1.failure t.failure (sym own.1.planned ∙ t.planned) in
     own.1.halted
-    ∙ ap (λ (f : Plan). record old { refused = delta ∷ []; drive = torn f delta old.drive }) failure
+    ∙ ap (λ (f : Failure). record old { refused = delta ∷ []; drive = torn f delta old.drive }) failure
     ∙ ap (λ (d : Drive). record old { refused = delta ∷ []; drive = d }) (sym (torn_one t.failure delta old.drive))
     ∙ ap (λ (ds : List (List Op)). record old { refused = ds; drive = torn_all t.failure ds old.drive }) (sym one)
     ∙ sym t.halted

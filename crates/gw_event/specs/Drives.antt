@@ -2,13 +2,13 @@
 use Rattle.std.specs.Prelude.{◌≡◌, ℕ, ◌+◌, ◌-◌, Bool, true, false, if◌then◌else◌, length, List, [], ◌∷◌, Option, Some, None}
 use Rattle.rep_op.specs.declared.op.Op.{Op}
 use Rattle.jr_disk.specs.declared.disk.Slot.{Slot}
-use Rattle.jr_disk.specs.declared.disk.Plan.{Plan}
-use Rattle.jr_disk.specs.declared.disk.Plan.TheVariants.{Stop, KeepBack}
+use Rattle.jr_disk.specs.declared.disk.Failure.{Failure}
+use Rattle.jr_disk.specs.declared.disk.Failure.TheVariants.{Stop, KeepBack}
 use Rattle.jr_disk.specs.Disk.{Slots, Image, at, after_crash}
 use Rattle.jr_journal.specs.Records.{written, written_all, base_bytes, slot_content, generation_in, records}
 use Rattle.jr_journal.specs.Crashes.{recovered}
 use Rattle.jr_journal.specs.Arranged.{after_append}
-use Rattle.jr_journal.specs.Journals.{other, emptied}
+use Rattle.jr_journal.specs.Journals.{other_slot, emptied}
 use Rattle.jr_journal.specs.Opening.{slot_read}
 
 -- the disk under a gateway: its two slots, the one that the journal writes, whether a write has
@@ -17,10 +17,10 @@ pub record Drive : Type 0 where
   pub slots : Slots
   pub slot : Slot
   pub halted : Bool
-  pub plan : Option Plan
+  pub plan : Option Failure
 
 -- the disk once a journal is opened on this image; a failure that is arranged stays so
-abbrev pub opened : ℕ → Option Plan → Image → Drive
+abbrev pub opened : ℕ → Option Failure → Image → Drive
 opened gateway plan i =
     record { slots = recovered gateway i; slot = slot_read gateway i; halted = false; plan = plan }
 
@@ -39,7 +39,7 @@ GoesOut [] drive = Unit {0}
 GoesOut (op ∷ ops) drive = drive.plan ≡ None
 
 -- the disk if this failure comes as the delta is written: the journal is halted
-abbrev pub torn : Plan → List Op → Drive → Drive
+abbrev pub torn : Failure → List Op → Drive → Drive
 torn plan delta drive =
     record drive {
       slots = after_append (Some plan) drive.slots drive.slot (written delta);
@@ -48,7 +48,7 @@ torn plan delta drive =
     }
 
 -- the disk if this failure comes as the deltas are written at once: the journal is halted
-abbrev pub torn_all : Plan → List (List Op) → Drive → Drive
+abbrev pub torn_all : Failure → List (List Op) → Drive → Drive
 torn_all plan deltas drive =
     record drive {
       slots = after_append (Some plan) drive.slots drive.slot (written_all deltas);
@@ -69,15 +69,16 @@ generation gateway drive = generation_in (slot_content gateway (at drive.slots d
 -- next generation, the base and the seal
 abbrev pub compacted : ℕ → List (List Op) → Drive → Drive
 compacted gateway base drive = record drive {
-  slots = after_append None (emptied drive.slots (other drive.slot)) (other drive.slot)
+  slots = after_append None (emptied drive.slots (other_slot drive.slot)) (other_slot drive.slot)
       (base_bytes gateway (generation gateway drive + 1) base);
-  slot = other drive.slot;
+  slot = other_slot drive.slot;
 }
 
 -- the disk if this failure comes as the base of a compaction is written: the journal is halted
-abbrev pub torn_base : Plan → ℕ → List (List Op) → Drive → Drive
+abbrev pub torn_base : Failure → ℕ → List (List Op) → Drive → Drive
 torn_base plan gateway base drive = record drive {
-  slots = after_append (Some plan) (emptied drive.slots (other drive.slot)) (other drive.slot)
+  slots =
+      after_append (Some plan) (emptied drive.slots (other_slot drive.slot)) (other_slot drive.slot)
       (base_bytes gateway (generation gateway drive + 1) base);
   halted = true;
   plan = None;

@@ -9,11 +9,11 @@ use Rattle.rep_op.specs.declared.fault.OpsFault.{OpsFault}
 use Rattle.rep_op.specs.declared.fault.OpsFault.TheVariants as ops_faults
 use Rattle.rep_op.specs.Orders.{subject_of}
 use Rattle.rep_op.specs.Values.{AreValues}
-use Rattle.rep_ops.specs.Making.{AreApart, IsDeltaOf, IsRefusal}
-use Rattle.rep_ops.specs.Spelling.{max_octets, IsWithinLimit}
+use Rattle.rep_ops.specs.Making.{HaveOwnNames, IsDeltaOf, IsRefusal}
+use Rattle.rep_ops.specs.Spelling.{max_octets, IsDeltaWithinLimit}
 use Rattle.rep_answer.specs.Answers.{IsAnswer}
 use Rattle.rep_digest.specs.Digests.{Digested, digest}
-use Rattle.rep_digest.specs.Spelling.{spelling, IsWithinLimit as IsDigestWithinLimit}
+use Rattle.rep_digest.specs.Spelling.{digest_spelling, IsDigestWithinLimit}
 use Rattle.rep_model.specs.declared.fault.Limit.{Limit}
 use Rattle.rep_model.specs.Keep.{keep}
 use Rattle.rep_model.specs.Views.{view, is_named}
@@ -21,7 +21,7 @@ use Rattle.rep_model.specs.Taking.{AllAgree}
 use Rattle.rep_model.specs.Limits.{first_passed}
 use Rattle.rep_model.specs.Held.{IsHeld}
 use Rattle.jr_journal.specs.declared.fault.JournalFault.TheVariants.{Foreign}
-use Rattle.jr_disk.specs.declared.disk.Plan.{Plan as Failure}
+use Rattle.jr_disk.specs.declared.disk.Failure.{Failure}
 use Rattle.jr_disk.specs.Disk.{image}
 use Rattle.jr_journal.specs.Journals.{last_generation}
 use Rattle.sn_plan.specs.declared.plan.Plan.{Plan}
@@ -74,7 +74,7 @@ IsRefused taken delta fault = ⊥
 -- the delta can be written: its numbers fit their octets, and its octets are at most 8 MiB
 pub record IsWritable (delta : List Op) : Type 0 where
   pub values : AreValues delta
-  pub limit : IsWithinLimit delta
+  pub limit : IsDeltaWithinLimit delta
 
 -- nothing changed, and no delta was made
 pub record NothingHappens (old new : Gateway) (made : List (List Op)) : Type 0 where
@@ -102,7 +102,7 @@ IsMade (op ∷ ops) old plan (Some delta) new made =
 abbrev pub IsCarriedOut : Gateway → Plan → Out → Gateway → List (List Op) → Type 0
 IsCarriedOut old plan out new made =
     (out ≡ record (only_sends plan.sends) { made = out.made })
-    × IsMade plan.ops old plan out.made new made × AreApart plan.ops
+    × IsMade plan.ops old plan out.made new made × HaveOwnNames plan.ops
 
 -- the plan for the occasion, by what the gateway has taken; none if a number is after the last
 abbrev pub IsPlan : Gateway → Occasion → ℕ → Option Plan → Type 0
@@ -131,10 +131,10 @@ pub record IsTorn (old : Gateway) (delta : List Op) (new : Gateway)
 pub record IsDropped (old : Gateway) (occasion : Occasion) (plan : Plan) (excuse : Out)
     (new : Gateway) (made : List (List Op)) : Type 0 where
   pub some : plan.ops ≢ []
-  pub apart : AreApart plan.ops
+  pub apart : HaveOwnNames plan.ops
   pub delta : List Op
   pub is_delta : IsDeltaOf plan.ops delta
-  pub limit : IsWithinLimit delta
+  pub limit : IsDeltaWithinLimit delta
   pub torn : IsTorn old delta new made
   pub excused : IsExcuse occasion plan.sends excuse.sends
   pub sends : excuse ≡ only_sends excuse.sends
@@ -163,8 +163,7 @@ OwnStep old occasion now (Err refusals.Halted) new made =
 OwnStep old occasion now (Err (refusals.Disk excuse)) new made =
     (plan : Plan) × IsPlan old occasion now (Some plan)
     × IsDropped old occasion plan excuse new made × (old.drive.halted ≡ false)
-OwnStep old occasion now (Err (refusals.Journal fault)) new made = ⊥
-OwnStep old occasion now (Err refusals.Memory) new made = ⊥
+OwnStep old occasion now answer new made = ⊥
 
 -- A delta comes. It is taken and the answer is empty; clients that another gateway now owns no
 -- longer have an address here. Or it is refused; or it cannot be written; or the gateway is halted.
@@ -187,10 +186,7 @@ TakeStep old delta (Err (refusals.Disk excuse)) new made =
     (excuse ≡ only_sends []) × (delta ≢ []) × IsTorn old delta new made × (old.drive.halted ≡ false)
 TakeStep old delta (Err refusals.Halted) new made =
     (old.drive.halted ≡ true) × NothingHappens old new made
-TakeStep old delta (Err (refusals.Frame fault)) new made = ⊥
-TakeStep old delta (Err refusals.Exhausted) new made = ⊥
-TakeStep old delta (Err (refusals.Journal fault)) new made = ⊥
-TakeStep old delta (Err refusals.Memory) new made = ⊥
+TakeStep old delta answer new made = ⊥
 
 -- The gateway writes its journal from the start: what must be kept of its set, as deltas. Nothing
 -- is sent, and the set stays as it is. It refuses if it is halted; else if the generation is the
@@ -204,7 +200,6 @@ CompactStep old (Ok out) new =
 CompactStep old (Err (refusals.Journal fault)) new =
     (generation old.config.gateway old.drive ≡ last_generation) × (fault ≡ Foreign) × (new ≡ old)
     × (old.drive.halted ≡ false)
-CompactStep old (Err (refusals.Frame fault)) new = ⊥
 CompactStep old (Err refusals.Halted) new = (old.drive.halted ≡ true) × (new ≡ old)
 CompactStep old (Err (refusals.Disk excuse)) new =
     (generation old.config.gateway old.drive ≢ last_generation) × (excuse ≡ only_sends [])
@@ -212,10 +207,7 @@ CompactStep old (Err (refusals.Disk excuse)) new =
     × (old.drive.plan ≡ Some failure)
     × (new ≡ record old { drive = torn_base failure old.config.gateway base old.drive }))
     × (old.drive.halted ≡ false)
-CompactStep old (Err (refusals.Conflict of)) new = ⊥
-CompactStep old (Err refusals.Full) new = ⊥
-CompactStep old (Err refusals.Exhausted) new = ⊥
-CompactStep old (Err refusals.Memory) new = ⊥
+CompactStep old answer new = ⊥
 
 -- an answer that shows a client's view, if an operation names the client
 abbrev pub shows : List Op → List ℕ → Out
@@ -234,7 +226,7 @@ DigestStep old (Ok out) new =
     IsDigestWithinLimit (digest old.taken)
     × (out ≡ record (only_sends []) { digest = Some (digest old.taken) }) × (new ≡ old)
 DigestStep old (Err refusals.Full) new =
-    (max_octets < length (spelling (digest old.taken))) × (new ≡ old)
+    (max_octets < length (digest_spelling (digest old.taken))) × (new ≡ old)
 DigestStep old (Err refusal) new = ⊥
 
 -- A gateway asks for what its digest does not cover of what must be kept of the set.

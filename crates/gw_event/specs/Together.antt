@@ -3,7 +3,7 @@ use Rattle.std.specs.Prelude.{◌≡◌, ◌⊎◌, List, [], ◌∷◌, ◌++�
 use Rattle.std.specs.List.{AllByRecursion}
 use Rattle.std.specs.Option.{option_to_list}
 use Rattle.rep_op.specs.declared.op.Op.{Op}
-use Rattle.jr_disk.specs.declared.disk.Plan.{Plan as Failure}
+use Rattle.jr_disk.specs.declared.disk.Failure.{Failure}
 use Rattle.gw_answer.specs.declared.out.Out.{Out}
 use Rattle.gw_answer.specs.declared.refusal.Refusal.{Refusal}
 use Rattle.gw_answer.specs.declared.refusal.Refusal.TheVariants as refusals
@@ -34,11 +34,7 @@ abbrev pub CanWrite : Step → Type 0
 CanWrite (steps.Frame from bytes now) = Unit {0}
 CanWrite (steps.Take delta) = Unit {0}
 CanWrite (steps.Tick now) = Unit {0}
-CanWrite (steps.View client) = ⊥
-CanWrite steps.Digest = ⊥
-CanWrite (steps.Answer asked) = ⊥
-CanWrite steps.Compact = ⊥
-CanWrite steps.Reopen = ⊥
+CanWrite step = ⊥
 
 -- a delta as it is written: not at all if it has no operations
 abbrev pub if_any : List Op → List (List Op)

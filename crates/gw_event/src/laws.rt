@@ -4,7 +4,7 @@ ghost use Rattle.std.specs.Prelude.{◌≡◌, ◌↔◌, true, List, [], ◌∷
 ghost use Rattle.std.specs.List.{AllByRecursion};
 ghost use Rattle.rep_op.specs.declared.op.Op.{Op};
 ghost use Rattle.rep_ops.specs.Splitting.{all_of};
-ghost use Rattle.jr_disk.specs.declared.disk.Plan.{Plan};
+ghost use Rattle.jr_disk.specs.declared.disk.Failure.{Failure};
 ghost use Rattle.gw_answer.specs.declared.out.Out.{Out};
 ghost use Rattle.gw_answer.specs.declared.refusal.Refusal.{Refusal};
 ghost use Rattle.gw_answer.specs.declared.step.Step.{Step};
@@ -30,7 +30,7 @@ pub fn calls_together()
     ensures told { (old new : Gateway) (calls : List Step) (answers : List (Result Out Refusal))
         (made : List (List Op)) → Together old calls answers new made
         → (alone : Gateway) × InTurn old calls answers alone made × AreAlike alone new }
-    ensures torn { (plan : Plan) (delta : List Op) (drive : Drive)
+    ensures torn { (plan : Failure) (delta : List Op) (drive : Drive)
         → torn_all plan (delta ∷ []) drive ≡ torn plan delta drive }
 {}
 

@@ -35,9 +35,9 @@ session_glimpse s =
     }
 
 -- a client's session at a glance, if it has one
-abbrev pub session_of : Option Session → Option SessionGlimpse
-session_of None = None
-session_of (Some s) = Some (session_glimpse s)
+abbrev pub session_at_glance : Option Session → Option SessionGlimpse
+session_at_glance None = None
+session_at_glance (Some s) = Some (session_glimpse s)
 
 -- the name of the first message that waits
 abbrev pub first_of : List Put → Option First
@@ -65,7 +65,7 @@ glimpse_of g local c v =
       client = c;
       stamp = v.stamp;
       prefix = v.prefix;
-      session = session_of v.session;
+      session = session_at_glance v.session;
       waiting = length v.pending;
       first = first_of v.pending;
       local = local_of g local c v.stamp;

@@ -38,8 +38,8 @@ fn session_glimpse(session: &Session) -> SessionGlimpse
 }
 
 /// A client's session at a glance, if it has one.
-fn session_of(session: &Option<Session>) -> Option<SessionGlimpse>
-    ensures { result ≡ spec.session_of session.now }
+fn session_at_glance(session: &Option<Session>) -> Option<SessionGlimpse>
+    ensures { result ≡ spec.session_at_glance session.now }
 {
     match session {
         None => None,
@@ -107,7 +107,7 @@ pub fn glimpse_of(
         client: client.copied(alloc)?,
         stamp: view.stamp,
         prefix: view.prefix,
-        session: session_of(&view.session),
+        session: session_at_glance(&view.session),
         waiting: view.pending.len(),
         first: first_of(view.pending.as_slice()),
         local: local_of(gateway, dialogs, client, view.stamp),

@@ -4,7 +4,7 @@ use Rattle.std.proofs.lemmas.List.Elements.{All-append, All-cons, All-nil, All-h
 use Rattle.gw_answer.specs.declared.step.Step.{Step}
 use Rattle.gw_answer.specs.declared.out.Out.{Out}
 use Rattle.gw_answer.specs.declared.refusal.Refusal.{Refusal}
-use Rattle.gw_answer.specs.Answers.{told}
+use Rattle.gw_answer.specs.Answers.{refusal_of_fault}
 use Rattle.gw_shift.specs.Calls.{Held, Holder}
 use Rattle.gw_shift.specs.Passes.{held_as, held_from, with_calls}
 use Rattle.gw_shift.specs.Calling.{Made, MadeInRow, NotMade}
@@ -42,7 +42,7 @@ pub adds_refused : (is : Step → Bool) (before : Holder) (step : Step) (fault :
 adds_refused is before step faults.ShiftFull after ours same = adds_none is before after same
 adds_refused is before step (faults.Behind held) after ours same = adds_none is before after same.1
 adds_refused is before step faults.Memory after ours same = adds_none is before after same
-adds_refused is before step (faults.Node number fault) after ours made = adds_one is before step (Err (told fault)) number after ours made
+adds_refused is before step (faults.Node number fault) after ours made = adds_one is before step (Err (refusal_of_fault fault)) number after ours made
 
 -- ---- calls in a row
 

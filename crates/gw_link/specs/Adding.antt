@@ -16,11 +16,7 @@ Adds is before after = AddsEach (λ (held : Held). is held.step ≡ true) before
 
 -- another gateway's: a delta is taken, a digest is given or answered
 abbrev pub is_of_link : Step → Bool
-is_of_link (steps.Frame from bytes now) = false
 is_of_link (steps.Take delta) = true
-is_of_link (steps.Tick now) = false
-is_of_link (steps.View client) = false
 is_of_link steps.Digest = true
 is_of_link (steps.Answer digest) = true
-is_of_link steps.Compact = false
-is_of_link steps.Reopen = false
+is_of_link step = false

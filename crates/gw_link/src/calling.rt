@@ -2,7 +2,7 @@
 
 ghost use Rattle.std.specs.Prelude.{◌≡◌, ◌≢◌, ◌≤◌, ℕ, Bool, true, IfOk, IfErr, MatchResult, Err, map};
 ghost use Rattle.std.specs.Arc.{arc_value};
-ghost use Rattle.gw_answer.specs.Answers.{said, told};
+ghost use Rattle.gw_answer.specs.Answers.{said, refusal_of_fault};
 ghost use Rattle.gw_answer.specs.declared.step.Step.{Step as AnyStep};
 ghost use Rattle.gw_shift.specs.Calling.{Made, MadeInRow};
 ghost use Rattle.gw_link.specs.Adding.{Adds};
@@ -13,12 +13,12 @@ ghost use Rattle.gw_answer.specs.declared.refusal.Refusal.TheVariants as refusal
 ghost use Rattle.gw_link.specs.declared.calling.End.TheVariants.{Memory};
 
 use crate::stage::Stage;
+use crate::work::Work;
 use gw_shift::gw_node::{Answer, NodeFault, Step};
-use gw_shift::{CallFault, Pass, Shift};
+use gw_shift::{CallFault, Pass};
 use jr_disk::Disk;
 use octets::NoMemory;
 use rep_model::Replica;
-use std::alloc::Global;
 use std::fmt;
 use std::sync::{Arc, Wait};
 use thiserror::Error;
@@ -64,48 +64,42 @@ impl From<NoMemory> for End {
     }
 }
 
-/// Makes a call, once it is claimed. Says what the gateway answered, or why the call did not reach
-/// it.
+/// Makes a call, once it is claimed, under the shift's lock. Says what the gateway answered, or why
+/// the call did not reach it. Runs in any thread that has a pass.
 #[tactic(auto, using(crate::proofs::Adding::adds_none))]
 pub fn call<T: Wait, R: Replica, D: Disk + Drop>(
-    rt: &T,
-    alloc: Global,
-    shift: &Shift<R, D>,
+    work: &Work<'_, T, R, D>,
     pass: Pass,
     step: Arc<Step>,
-    stage: &Stage,
 ) -> (Pass, Result<Answer, End>)
     ensures made { IfOk result.1 (λ answer. (number : ℕ) × Made pass (arc_value step) (said answer)
         number result.0) }
     ensures none { IfErr result.1 (λ end. CannotCall end × (result.0 ≡ pass)) }
     ensures adds { (is : AnyStep → Bool) → is (arc_value step) ≡ true → Adds is pass result.0 }
 {
-    if !stage.claim() {
+    if !work.stage.claim() {
         return (pass, Err(End::Full));
     }
-    match shift.call(rt, alloc, pass, step) {
+    match work.shift.call(work.rt, work.alloc, pass, step) {
         Ok((pass, out, number)) => {
-            stage.note_made(number);
+            work.stage.note_made(number);
             (pass, Ok(Ok(out)))
         }
-        Err((pass, fault)) => match reached(fault) {
+        Err((pass, fault)) => match refusal_or_end(fault) {
             Ok(refusal) => (pass, Ok(Err(refusal))),
             Err(end) => (pass, Err(end)),
         },
     }
 }
 
-/// Makes calls in a row, with one sync, each of which is claimed. Says what the gateway answered to
-/// the first of them, one at least: the others are for another row. Or says why none of them reached
-/// it.
+/// Makes calls in a row, with one sync, each of which is claimed, under the shift's lock. Says what
+/// the gateway answered to the first of them, one at least: the others are for another row. Or says
+/// why none of them reached it. Runs in a link's thread.
 #[tactic(auto, using(crate::proofs::Adding::adds_none, crate::proofs::Adding::adds_row))]
 pub fn call_all<T: Wait, R: Replica, D: Disk + Drop>(
-    rt: &T,
-    alloc: Global,
-    shift: &Shift<R, D>,
+    work: &Work<'_, T, R, D>,
     pass: Pass,
     steps: &[Arc<Step>],
-    stage: &Stage,
 ) -> (Pass, Result<Vec<Answer>, End>)
     ensures made { IfOk result.1 (λ answers. (number : ℕ) × MadeInRow pass
         (map arc_value steps.now) (map said answers.items) number result.0) }
@@ -113,11 +107,15 @@ pub fn call_all<T: Wait, R: Replica, D: Disk + Drop>(
     ensures adds { (is : AnyStep → Bool) → AllAre is (map arc_value steps.now)
         → Adds is pass result.0 }
 {
+    let stage = work.stage;
     let claimed = claim_all(stage, steps.len());
     if claimed == 0 {
         return (pass, Err(End::Full));
     }
-    match shift.call_all(rt, alloc, pass, &steps[..claimed]) {
+    match work
+        .shift
+        .call_all(work.rt, work.alloc, pass, &steps[..claimed])
+    {
         Ok((pass, answers, number)) => {
             give_back(stage, claimed - answers.len());
             stage.note_made(number.saturating_add(answers.len() as u64 - 1));
@@ -153,7 +151,7 @@ fn give_back(stage: &Stage, count: usize) {
 fn unreached(fault: CallFault) -> End
     ensures { CannotCall result }
 {
-    match reached(fault) {
+    match refusal_or_end(fault) {
         Err(end) => end,
         Ok(refusal) => {
             drop(refusal);
@@ -163,7 +161,7 @@ fn unreached(fault: CallFault) -> End
 }
 
 /// What a refused call means: the gateway's refusal, or why the call did not reach it.
-fn reached(fault: CallFault) -> Result<NodeFault, End>
+fn refusal_or_end(fault: CallFault) -> Result<NodeFault, End>
     ensures { result ≡ reached_by fault }
 {
     match fault {
@@ -176,9 +174,9 @@ fn reached(fault: CallFault) -> Result<NodeFault, End>
 
 /// What a refusal of the gateway means for what it was asked: that is dropped. Only want of memory
 /// ends anything.
-pub fn dropped(fault: &NodeFault) -> Result<(), NoMemory>
-    ensures { MatchResult result (λ _. told fault.now ≢ refusals.Memory)
-        (λ _. told fault.now ≡ refusals.Memory) }
+pub fn only_memory(fault: &NodeFault) -> Result<(), NoMemory>
+    ensures { MatchResult result (λ _. refusal_of_fault fault.now ≢ refusals.Memory)
+        (λ _. refusal_of_fault fault.now ≡ refusals.Memory) }
 {
     match fault {
         NodeFault::Memory => Err(NoMemory),
@@ -190,14 +188,14 @@ pub fn dropped(fault: &NodeFault) -> Result<(), NoMemory>
 
 /// Drops what the gateway refused. Only want of memory ends what asked.
 pub(crate) fn drop_refusal(fault: NodeFault) -> Result<(), End> {
-    let is_dropped = dropped(&fault);
+    let is_dropped = only_memory(&fault);
     drop(fault);
     Ok(is_dropped?)
 }
 
 /// Whether the gateway refused since it is halted.
 pub fn is_halted(fault: &NodeFault) -> bool
-    ensures { result ≡ says_halted (Err (told fault.now)) }
+    ensures { result ≡ says_halted (Err (refusal_of_fault fault.now)) }
 {
     matches!(fault, NodeFault::Halted)
 }

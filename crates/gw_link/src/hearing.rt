@@ -1,4 +1,5 @@
-//! What has come over a link.
+//! What has come over a link. It is heard in the thread of the link's seat, and the shift's lock is
+//! held for calls alone.
 
 ghost use Rattle.std.specs.Prelude.{◌≡◌, ◌++◌, ◌∷◌, [], true, IfOk, OnOk, map};
 ghost use Rattle.std.specs.Arc.{arc_value};
@@ -12,12 +13,12 @@ use crate::link::{Heard, Link};
 use crate::outgoing::is_nothing;
 use crate::relay::{Relay, weight, weight_of_digest};
 use crate::saying::say_answer;
-use crate::stage::Stage;
 use crate::trouble::trouble_of;
+use crate::work::Work;
 use gw_net::{LinkFault, LinkMessage};
 use gw_relay::is_gone;
+use gw_shift::Pass;
 use gw_shift::gw_node::{Answer, NodeFault, Out, Step};
-use gw_shift::{Pass, Shift};
 use jr_disk::Disk;
 use rep_model::Replica;
 use rep_ops::Delta;
@@ -27,7 +28,7 @@ use std::sync::{Arc, Wait};
 use std::time::Clock;
 
 /// How often a read may find nothing before the other end has said its number: some ten seconds.
-const MOST_SILENCE: u32 = 1_000;
+const MOST_SILENT_READS: u32 = 1_000;
 
 /// How many deltas are taken in a row at most.
 const MOST_IN_A_ROW: usize = 64;
@@ -51,7 +52,8 @@ enum Said {
     Tells(Heard),
 }
 
-/// Reads what has come, where anything does within the stream's time. It is this second now.
+/// Reads what has come, if anything does within the stream's time. It is this second now. Runs in a
+/// seat's thread, without a lock.
 pub(crate) fn listen<S: Read + Drop>(
     alloc: Global,
     link: &mut Link<S>,
@@ -77,7 +79,7 @@ fn wait_on<S: Drop>(link: &mut Link<S>, second: u64) -> Result<(), End> {
         return Err(End::Lost);
     }
     link.silence = link.silence.saturating_add(1);
-    if link.other.is_none() && link.silence > MOST_SILENCE {
+    if link.other.is_none() && link.silence > MOST_SILENT_READS {
         return Err(End::Lost);
     }
     match link.heard {
@@ -162,23 +164,21 @@ fn heard(alloc: Global, message: LinkMessage) -> Result<Said, End> {
 }
 
 /// Takes the deltas that came, as many as wait in a row with one sync. What the gateway refuses is
-/// dropped, also where it is halted; where the shift has had all its calls the rest waits for the
-/// next one. Before both ends have said who they are, nothing is heard but that.
+/// dropped, also if it is halted; if the shift has had all its calls the rest waits for the next
+/// one. Before both ends have said who they are, nothing is heard but that. Runs in a seat's
+/// thread; the shift's lock is held for each row.
 #[tactic(auto, using(crate::proofs::Adding::adds_more, crate::proofs::Adding::adds_none))]
 pub(crate) fn hear_all<T: Wait, R: Replica, D: Disk + Drop, S: Drop>(
-    rt: &T,
-    alloc: Global,
-    shift: &Shift<R, D>,
+    work: &Work<'_, T, R, D>,
     pass: Pass,
     link: &mut Link<S>,
-    stage: &Stage,
     relay: &Relay,
 ) -> (Pass, Result<(), End>)
     ensures { Adds is_of_link pass result.0 }
 {
     let mut pass = pass;
-    for _ in rt.forever() {
-        let row = match row_of(rt, alloc, link, relay) {
+    for _ in work.rt.forever() {
+        let row = match row_of(work.rt, work.alloc, link, relay) {
             Ok(row) => row,
             Err(end) => return (pass, Err(end)),
         };
@@ -186,7 +186,7 @@ pub(crate) fn hear_all<T: Wait, R: Replica, D: Disk + Drop, S: Drop>(
             drop(row);
             return (pass, Ok(()));
         }
-        let (after, heard) = hear_row(rt, alloc, shift, pass, link, row, stage, relay);
+        let (after, heard) = hear_row(work, pass, link, row, relay);
         pass = after;
         if let Err(end) = heard {
             return (pass, Err(end));
@@ -238,32 +238,27 @@ fn put_in(row: &mut Row, heard: &Heard, news: Option<Arc<Step>>) -> Result<(), E
 
 /// Hears deltas in a row. Those that were taken wait no more.
 fn hear_row<T: Wait, R: Replica, D: Disk + Drop, S: Drop>(
-    rt: &T,
-    alloc: Global,
-    shift: &Shift<R, D>,
+    work: &Work<'_, T, R, D>,
     pass: Pass,
     link: &mut Link<S>,
     row: Row,
-    stage: &Stage,
     relay: &Relay,
 ) -> (Pass, Result<(), End>)
     requires { AllAre is_of_link (map arc_value row.steps.items) }
     ensures { Adds is_of_link pass result.0 }
 {
     let Row { steps, news } = row;
-    relay.note_working(rt);
-    let (pass, answered) = call_all(rt, alloc, shift, pass, steps.as_slice(), stage);
-    let heard = follow_row(rt, alloc, link, stage, relay, steps, news, answered);
-    relay.note_worked(rt);
+    relay.note_working(work.rt);
+    let (pass, answered) = call_all(work, pass, steps.as_slice());
+    let heard = follow_row(work, link, relay, steps, news, answered);
+    relay.note_worked(work.rt);
     (pass, heard)
 }
 
-/// What follows on the gateway's answers to a row of deltas.
-fn follow_row<T: Wait, S: Drop>(
-    rt: &T,
-    alloc: Global,
+/// Does what follows on the gateway's answers to a row of deltas. Runs without the shift's lock.
+fn follow_row<T: Wait, R: Replica, D: Disk + Drop, S: Drop>(
+    work: &Work<'_, T, R, D>,
     link: &mut Link<S>,
-    stage: &Stage,
     relay: &Relay,
     steps: Vec<Arc<Step>>,
     news: Vec<Option<Arc<Step>>>,
@@ -274,11 +269,11 @@ fn follow_row<T: Wait, S: Drop>(
         Err(end) => return Err(end),
     };
     for (answer, (step, share)) in answers.into_iter().zip(steps.into_iter().zip(news)) {
-        relay.note_heard(rt, link.place, &step);
-        stage.keep(rt, octets_of(&step));
+        relay.note_heard(work.rt, link.place, &step);
+        work.stage.keep(work.rt, octets_of(&step));
         drop(step);
-        let followed = follow_answer(rt, alloc, link, stage, relay, share, true, Ok(answer));
-        relay.note_worked(rt);
+        let followed = follow_answer(work, link, relay, share, true, Ok(answer));
+        relay.note_worked(work.rt);
         followed?;
         let _ = link.waiting.pop_front();
     }
@@ -286,20 +281,18 @@ fn follow_row<T: Wait, S: Drop>(
 }
 
 /// Answers the digest that came, once what was said so far went out, and for each gateway once in
-/// some seconds: who asks and does not listen, or asks and asks, is not answered without end.
+/// some seconds: who asks and does not listen, or asks and asks, is not answered without end. Runs
+/// in a seat's thread; the shift's lock is held for the call.
 pub(crate) fn answer<T: Wait + Clock, R: Replica, D: Disk + Drop, S: Drop>(
-    rt: &T,
-    alloc: Global,
-    shift: &Shift<R, D>,
+    work: &Work<'_, T, R, D>,
     pass: Pass,
     link: &mut Link<S>,
-    stage: &Stage,
     relay: &Relay,
 ) -> (Pass, Result<(), End>)
     ensures { Adds is_of_link pass result.0 }
 {
-    let second = second_of(rt);
-    if !may_answer(rt, link, relay, second) {
+    let second = second_of(work.rt);
+    if !may_answer(work.rt, link, relay, second) {
         return (pass, Ok(()));
     }
     let Some(asked) = link.asked.as_ref() else {
@@ -308,15 +301,15 @@ pub(crate) fn answer<T: Wait + Clock, R: Replica, D: Disk + Drop, S: Drop>(
     let Ok(step) = asked.step.clone() else {
         return (pass, Err(End::Lost));
     };
-    let (pass, heard) = hear(rt, alloc, shift, pass, link, step, stage, relay);
+    let (pass, heard) = hear(work, pass, link, step, relay);
     match heard {
         Err(End::Full) => (pass, Err(End::Full)),
         Ok(()) => {
-            note_tried(rt, link, relay, second);
+            note_tried(work.rt, link, relay, second);
             (pass, Ok(()))
         }
         Err(end) => {
-            note_tried(rt, link, relay, second);
+            note_tried(work.rt, link, relay, second);
             (pass, Err(alone(end)))
         }
     }
@@ -360,40 +353,34 @@ fn alone(end: End) -> End
 
 /// Hears one message.
 fn hear<T: Wait, R: Replica, D: Disk + Drop, S: Drop>(
-    rt: &T,
-    alloc: Global,
-    shift: &Shift<R, D>,
+    work: &Work<'_, T, R, D>,
     pass: Pass,
     link: &mut Link<S>,
     step: Arc<Step>,
-    stage: &Stage,
     relay: &Relay,
 ) -> (Pass, Result<(), End>)
     requires { is_of_link (arc_value step) ≡ true }
     ensures { Adds is_of_link pass result.0 }
 {
-    relay.note_heard(rt, link.place, &step);
-    let (pass, heard) = work_on(rt, alloc, shift, pass, link, step, stage, relay);
-    relay.note_worked(rt);
+    relay.note_heard(work.rt, link.place, &step);
+    let (pass, heard) = work_on(work, pass, link, step, relay);
+    relay.note_worked(work.rt);
     (pass, heard)
 }
 
 /// Works on a message, unless the link is lost by it.
 fn work_on<T: Wait, R: Replica, D: Disk + Drop, S: Drop>(
-    rt: &T,
-    alloc: Global,
-    shift: &Shift<R, D>,
+    work: &Work<'_, T, R, D>,
     pass: Pass,
     link: &mut Link<S>,
     step: Arc<Step>,
-    stage: &Stage,
     relay: &Relay,
 ) -> (Pass, Result<(), End>)
     requires { is_of_link (arc_value step) ≡ true }
     ensures { Adds is_of_link pass result.0 }
 {
-    match news_of(rt, link, &step, relay) {
-        Ok(news) => ask(rt, alloc, shift, pass, link, step, news, stage, relay),
+    match news_of(work.rt, link, &step, relay) {
+        Ok(news) => ask(work, pass, link, step, news, relay),
         Err(end) => {
             drop(step);
             (pass, Err(end))
@@ -403,33 +390,28 @@ fn work_on<T: Wait, R: Replica, D: Disk + Drop, S: Drop>(
 
 /// Asks the gateway what a message asks for. A delta that brings what is new here is handed on.
 fn ask<T: Wait, R: Replica, D: Disk + Drop, S: Drop>(
-    rt: &T,
-    alloc: Global,
-    shift: &Shift<R, D>,
+    work: &Work<'_, T, R, D>,
     pass: Pass,
     link: &mut Link<S>,
     step: Arc<Step>,
     news: Option<Arc<Step>>,
-    stage: &Stage,
     relay: &Relay,
 ) -> (Pass, Result<(), End>)
     requires { is_of_link (arc_value step) ≡ true }
     ensures { Adds is_of_link pass result.0 }
 {
-    stage.keep(rt, octets_of(&step));
+    work.stage.keep(work.rt, octets_of(&step));
     let is_taken = is_delta(&step);
-    let (pass, answered) = call(rt, alloc, shift, pass, step, stage);
-    let heard = follow_answer(rt, alloc, link, stage, relay, news, is_taken, answered);
+    let (pass, answered) = call(work, pass, step);
+    let heard = follow_answer(work, link, relay, news, is_taken, answered);
     (pass, heard)
 }
 
-/// What follows on the gateway's answer, which is counted: a refusal that an operator should hear
-/// of is noted.
-fn follow_answer<T: Wait, S: Drop>(
-    rt: &T,
-    alloc: Global,
+/// Does what follows on the gateway's answer, and counts it: a refusal that an operator should hear
+/// of is noted. Runs without the shift's lock.
+fn follow_answer<T: Wait, R: Replica, D: Disk + Drop, S: Drop>(
+    work: &Work<'_, T, R, D>,
     link: &mut Link<S>,
-    stage: &Stage,
     relay: &Relay,
     news: Option<Arc<Step>>,
     is_taken: bool,
@@ -443,11 +425,11 @@ fn follow_answer<T: Wait, S: Drop>(
         }
         Ok(Err(fault)) => {
             drop(news);
-            note_refusal(rt, link, relay, &fault);
+            note_refusal(work.rt, link, relay, &fault);
             drop_refusal(fault)
         }
         Ok(Ok(out)) => {
-            let followed = follow(rt, alloc, link, stage, relay, news, &out);
+            let followed = follow(work, link, relay, news, &out);
             drop(out);
             followed
         }
@@ -490,23 +472,22 @@ fn news_of<T: Wait, S: Drop>(
     }
 }
 
-/// What follows on what was heard: news are handed on, and what the other end lacks is said.
-fn follow<T: Wait, S: Drop>(
-    rt: &T,
-    alloc: Global,
+/// Hands on what was heard if it is new, and says what the other end lacks. Runs without the
+/// shift's lock; it takes the relay's to hand on.
+fn follow<T: Wait, R: Replica, D: Disk + Drop, S: Drop>(
+    work: &Work<'_, T, R, D>,
     link: &mut Link<S>,
-    stage: &Stage,
     relay: &Relay,
     news: Option<Arc<Step>>,
     out: &Arc<Out>,
 ) -> Result<(), End> {
     if let Some(step) = news {
-        relay.hand_on(rt, alloc, link.other.unwrap_or(0), step);
+        relay.hand_on(work.rt, work.alloc, link.other.unwrap_or(0), step);
     }
     let octets = weight_of_answer(out.answer.as_slice());
-    stage.keep(rt, octets);
-    look_for_room(alloc, octets)?;
-    say_answer(alloc, link, out.answer.as_slice())
+    work.stage.keep(work.rt, octets);
+    look_for_room(work.alloc, octets)?;
+    say_answer(work.alloc, link, out.answer.as_slice())
 }
 
 /// Whether there is room for so many octets, asked for at once: where there is none, nothing is

@@ -8,8 +8,9 @@
 //! outlives a shift: what came over it and was not heard yet waits for the next one.
 //!
 //! - `stage`: how far a shift is, and how its threads wait (`Stage`, `Phase`).
+//! - `work`: what a thread of a shift works with (`Work`).
 //! - `calling`: a call with a pass that comes back (`call`, `End`), and what a refusal of it means
-//!   (`dropped`, `is_halted`).
+//!   (`only_memory`, `is_halted`).
 //! - `link`: a link that is open (`Link`, `Origin`).
 //! - `saying`: what is said over a link.
 //! - `relay`: what all links share: what is handed on, and who is linked (`Relay`).
@@ -34,11 +35,13 @@ mod saying;
 mod stage;
 mod talking;
 mod trouble;
+mod work;
 
-pub use calling::{End, call, dropped, is_halted};
+pub use calling::{End, call, is_halted, only_memory};
 pub use counts::{LinkCounts, LinkNumbers};
 pub use link::{Link, Origin};
 pub use relay::Relay;
 pub use stage::{Phase, Stage};
 pub use talking::talk;
 pub use trouble::{Report, Trouble};
+pub use work::Work;

@@ -18,7 +18,7 @@ const MOST_BEHIND: usize = 67_108_864;
 
 /// How often in turn a stream may take nothing before the link is given up: who takes in a long
 /// delta reads nothing meanwhile. Each time it is waited for as long as the stream's time says.
-const MOST_STALLS: u32 = 1_500;
+const MOST_STALLED_WRITES: u32 = 1_500;
 
 /// How many octets are written at once.
 const AT_ONCE: usize = 65_536;
@@ -90,9 +90,9 @@ pub(crate) fn is_behind<S: Drop>(link: &Link<S>) -> bool {
 }
 
 /// Lets go out what the stream takes in some writes, fewer at a shift's end. A stream that took
-/// less than it was given has no more room, and is not waited for. Where it took nothing for too
-/// long the link is lost. Where it takes no more the link is mute.
-pub(crate) fn pump<S: Write + Drop>(link: &mut Link<S>, phase: Phase) -> Result<(), End> {
+/// less than it was given has no more room, and is not waited for. If it took nothing for too long
+/// the link is lost. If it takes no more the link is mute. Runs in a seat's thread, without a lock.
+pub(crate) fn write_some<S: Write + Drop>(link: &mut Link<S>, phase: Phase) -> Result<(), End> {
     let most = if phase == Phase::Quiet {
         LAST_WRITES
     } else {
@@ -105,16 +105,16 @@ pub(crate) fn pump<S: Write + Drop>(link: &mut Link<S>, phase: Phase) -> Result<
         match write_once(&mut link.stream, first.as_slice(), link.written) {
             Outcome::Took(size) => {
                 link.stalls = 0;
-                go_on(link, size);
+                advance(link, size);
             }
             Outcome::Less(size) => {
                 link.stalls = 0;
-                go_on(link, size);
+                advance(link, size);
                 return Ok(());
             }
-            Outcome::Nothing => return stall(link),
+            Outcome::Nothing => return count_stall(link),
             Outcome::Closed => {
-                fall_silent(link);
+                stop_sending(link);
                 return Ok(());
             }
         }
@@ -124,7 +124,7 @@ pub(crate) fn pump<S: Write + Drop>(link: &mut Link<S>, phase: Phase) -> Result<
 
 /// Nothing goes out any more: what was to go out is let go. The other end may be gone for ever, and
 /// what it said before that may be nowhere else, so it is heard.
-fn fall_silent<S: Drop>(link: &mut Link<S>) {
+fn stop_sending<S: Drop>(link: &mut Link<S>) {
     link.mute = true;
     link.outgoing.clear();
     link.answering = 0;
@@ -153,7 +153,7 @@ fn write_once<S: Write>(stream: &mut S, octets: &[u8], written: usize) -> Outcom
 }
 
 /// So many octets more of the first message went out. Behind the last one it is done with.
-fn go_on<S: Drop>(link: &mut Link<S>, size: usize) {
+fn advance<S: Drop>(link: &mut Link<S>, size: usize) {
     add(&mut link.counts.sent, size);
     let written = link.written.saturating_add(size);
     match link.outgoing.front() {
@@ -177,9 +177,9 @@ fn forget_first<S: Drop>(link: &mut Link<S>) {
 }
 
 /// The stream took nothing once more.
-fn stall<S: Drop>(link: &mut Link<S>) -> Result<(), End> {
+fn count_stall<S: Drop>(link: &mut Link<S>) -> Result<(), End> {
     link.stalls = link.stalls.saturating_add(1);
-    if link.stalls > MOST_STALLS {
+    if link.stalls > MOST_STALLED_WRITES {
         return Err(End::Lost);
     }
     Ok(())

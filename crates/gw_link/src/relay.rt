@@ -95,7 +95,8 @@ struct Board {
 }
 
 /// What all links of a gateway share: what is handed on from one to the others, who is linked, when
-/// digests were answered, and what an operator should hear of. It outlives a shift.
+/// digests were answered, and what an operator should hear of. It outlives a shift. Any thread may
+/// call each method, which holds the relay's lock while it runs, and takes no other.
 #[derive(Drop)]
 pub struct Relay {
     board: Mutex<Board>,

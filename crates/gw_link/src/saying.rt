@@ -1,4 +1,5 @@
-//! What goes out over a link.
+//! What goes out over a link. Said is what waits to go out: a link belongs to one seat's thread,
+//! and to say something takes no lock.
 
 ghost use Rattle.std.specs.Prelude.{◌≡◌, IfOk};
 ghost use Rattle.gw_link.specs.Adding.{Adds, is_of_link};
@@ -9,12 +10,12 @@ use crate::hearing::second_of;
 use crate::link::Link;
 use crate::outgoing::{is_behind, say, say_spelled, spelled};
 use crate::relay::{Relay, weight_of_digest};
-use crate::stage::Stage;
 use crate::trouble::Trouble;
+use crate::work::Work;
 use gw_net::LinkMessage;
 use gw_relay::{PIECE, fits, goes_on, is_quiet};
 use gw_shift::gw_node::{Answer, Out, Step};
-use gw_shift::{CallFault, Pass, Shift};
+use gw_shift::{CallFault, Pass};
 use jr_disk::Disk;
 use octets::NoMemory;
 use rep_digest::Digest;
@@ -29,7 +30,7 @@ const AT_ONCE: usize = 64;
 
 /// How often a read finds nothing, ten milliseconds each, before that counts as a quiet time: some
 /// thirty seconds.
-const MOST_QUIET: u32 = 3_000;
+const MOST_QUIET_READS: u32 = 3_000;
 
 /// How many quiet times there are before this end says its digest again: some five minutes of reads
 /// that find nothing. That asks for what the other end took from a third gateway meanwhile,
@@ -175,30 +176,27 @@ fn is_due<S: Drop>(link: &Link<S>) -> bool {
 /// Says who this is, with whom it is linked, and what it has; the last once the other end has said
 /// its number, so that whoever does not costs nothing. All is said again from time to time. A link
 /// whose other end has the number of this gateway is at an end: it is this gateway itself, or one
-/// that may not be there.
+/// that may not be there. Runs in a seat's thread; the shift's lock is held to work out the digest.
 pub(crate) fn greet<T: Wait + Clock, R: Replica, D: Disk + Drop, S: Drop>(
-    rt: &T,
-    alloc: Global,
-    shift: &Shift<R, D>,
+    work: &Work<'_, T, R, D>,
     pass: Pass,
     link: &mut Link<S>,
     gateway: u8,
-    stage: &Stage,
     relay: &Relay,
 ) -> (Pass, Result<(), End>)
     ensures { Adds is_of_link pass result.0 }
 {
-    match introduce(rt, alloc, link, gateway, relay) {
+    match introduce(work.rt, work.alloc, link, gateway, relay) {
         Err(end) => return (pass, Err(end)),
         Ok(false) => return (pass, Ok(())),
         Ok(true) => {}
     }
-    let Ok(step) = Arc::new(alloc, Step::Digest) else {
+    let Ok(step) = Arc::new(work.alloc, Step::Digest) else {
         return (pass, Err(End::Memory));
     };
-    let (pass, answered) = call(rt, alloc, shift, pass, step, stage);
+    let (pass, answered) = call(work, pass, step);
     let said = match out_of(answered) {
-        Ok(out) => say_greeting(rt, alloc, link, stage, relay, out),
+        Ok(out) => say_greeting(work, link, relay, out),
         Err(end) => Err(end),
     };
     (pass, said)
@@ -276,7 +274,7 @@ fn take_place<T: Wait, S: Drop>(
 fn is_to_speak<S: Drop>(link: &mut Link<S>, changes: u64, second: u64) -> bool {
     let mut is_due = changes != link.changes;
     if link.is_told() {
-        if link.silence >= MOST_QUIET {
+        if link.silence >= MOST_QUIET_READS {
             link.silence = 0;
             link.repeats = link.repeats.saturating_add(1);
             is_due = true;
@@ -325,21 +323,19 @@ fn has_lost<S: Drop>(link: &Link<S>, linked: &[u8]) -> bool {
 
 /// Says the digest where that is due. A gateway whose digest would be too large says none. The
 /// history keeps it in either case.
-fn say_greeting<T: Wait, S: Drop>(
-    rt: &T,
-    alloc: Global,
+fn say_greeting<T: Wait, R: Replica, D: Disk + Drop, S: Drop>(
+    work: &Work<'_, T, R, D>,
     link: &mut Link<S>,
-    stage: &Stage,
     relay: &Relay,
     out: Option<Arc<Out>>,
 ) -> Result<(), End> {
     if is_due(link) {
         link.greeted = true;
         link.repeats = 0;
-        say_digest_of(alloc, link, &out)?;
+        say_digest_of(work.alloc, link, &out)?;
     }
-    stage.keep(rt, octets_of_digest(&out));
-    relay.learn(rt, out);
+    work.stage.keep(work.rt, octets_of_digest(&out));
+    relay.learn(work.rt, out);
     Ok(())
 }
 
@@ -368,38 +364,34 @@ fn say_digest_of<S: Drop>(
 }
 
 /// Tells of each delta that the gateway made in this shift and that was not told of. The next look
-/// goes on after the calls that are known to have made none.
+/// goes on after the calls that are known to have made none. Runs in a seat's thread; the shift's
+/// lock is held to find them, and not to copy them.
 pub(crate) fn tell_all<T: Wait, R: Replica, D: Disk + Drop, S: Drop>(
-    rt: &T,
-    alloc: Global,
-    shift: &Shift<R, D>,
+    work: &Work<'_, T, R, D>,
     pass: &Pass,
     link: &mut Link<S>,
-    stage: &Stage,
     relay: &Relay,
 ) -> Result<(), End> {
-    for _ in rt.forever() {
-        let known = stage.made();
-        let made = made_after(rt, alloc, shift, pass, link.told)?;
+    for _ in work.rt.forever() {
+        let known = work.stage.made();
+        let made = made_after(work, pass, link.told)?;
         if made.is_empty() {
             drop(made);
             link.told = link.told.max(known);
             return Ok(());
         }
-        tell_some(rt, alloc, link, made, relay)?;
+        tell_some(work.rt, work.alloc, link, made, relay)?;
     }
     unreachable!()
 }
 
 /// The deltas of some calls after this one, with the numbers of these.
 fn made_after<T: Wait, R: Replica, D: Disk + Drop>(
-    rt: &T,
-    alloc: Global,
-    shift: &Shift<R, D>,
+    work: &Work<'_, T, R, D>,
     pass: &Pass,
     told: u64,
 ) -> Result<Vec<(u64, Delta)>, End> {
-    match shift.after(rt, alloc, pass, told, AT_ONCE) {
+    match work.shift.after(work.rt, work.alloc, pass, told, AT_ONCE) {
         Ok(made) => Ok(made),
         Err(CallFault::Behind { .. }) => Err(End::Behind),
         Err(CallFault::Memory) => Err(End::Memory),
@@ -432,7 +424,8 @@ fn say_delta<S: Drop>(alloc: Global, link: &mut Link<S>, delta: Delta) -> Result
     say(alloc, link, LinkMessage::Delta(delta))
 }
 
-/// Hands on what other gateways told and what was new here, where it goes on to the other end.
+/// Hands on what other gateways told and what was new here, if it goes on to the other end. Runs in
+/// a seat's thread; the relay's lock is held for one delta at a time.
 pub(crate) fn hand_all<T: Wait, S: Drop>(
     rt: &T,
     alloc: Global,

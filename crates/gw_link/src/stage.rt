@@ -17,7 +17,8 @@ pub enum Phase {
 }
 
 /// Tells the threads of a shift how far it is, lets them wait for that, and gives out its calls:
-/// who makes one has claimed it before.
+/// who makes one has claimed it before. All of them share it. What takes `rt` takes its lock for a
+/// moment, and holds no lock while it waits; what does not takes none.
 #[derive(Drop)]
 pub struct Stage {
     phase: Mutex<Phase>,
@@ -60,8 +61,8 @@ impl Stage {
         self.claims.load(Ordering::SeqCst) >= self.steps
     }
 
-    /// The history keeps a datagram, answer, digest or delta of so many octets. If it keeps more of
-    /// them than it should, the shift is to end.
+    /// Notes that the history keeps a datagram, answer, digest or delta of so many octets. If it
+    /// keeps more of them than it should, closes the shift.
     pub fn keep<T: Wait>(&self, rt: &T, octets: usize) {
         let before = self.kept.fetch_add(octets as u64, Ordering::SeqCst);
         if is_much(before.saturating_add(octets as u64)) {
@@ -69,7 +70,7 @@ impl Stage {
         }
     }
 
-    /// A call has this number in the history.
+    /// Notes that a call has this number in the history.
     pub(crate) fn note_made(&self, number: u64) {
         let _ = self.made.fetch_max(number, Ordering::SeqCst);
     }

@@ -1,7 +1,7 @@
 //! What an operator should hear of.
 
 ghost use Rattle.std.specs.Prelude.{◌≡◌};
-ghost use Rattle.gw_answer.specs.Answers.{told};
+ghost use Rattle.gw_answer.specs.Answers.{refusal_of_fault};
 ghost use Rattle.gw_link.specs.inner.Calling as spec;
 
 use gw_relay::is_to_tell;
@@ -49,7 +49,7 @@ pub(crate) struct Tally {
 
 /// The trouble that a refusal of what another gateway told is, if it is one.
 pub(crate) fn trouble_of(fault: &NodeFault) -> Option<Trouble>
-    ensures { result ≡ spec.trouble_of (told fault.now) }
+    ensures { result ≡ spec.trouble_of (refusal_of_fault fault.now) }
 {
     match fault {
         NodeFault::Conflict { .. } => Some(Trouble::Conflict),

@@ -27,7 +27,7 @@ abbrev pub addr : ℕ → ℕ → Addr
 addr host port = record { host = host; port = port }
 
 -- a host, a colon (58) and a port
-abbrev pub address_of : List ℕ → Option Addr
-address_of text =
+abbrev pub read_address : List ℕ → Option Addr
+read_address text =
     option_and_then (λ parts. option_and_then
     (λ host. option_map (addr host) (number_of 16 parts.1)) (host_of parts.0)) (cut 58 text)

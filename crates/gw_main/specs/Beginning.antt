@@ -18,12 +18,9 @@ config_of settings =
     }
 
 -- the disk's failure is the journal's, a record that does not fit is a bad one
-abbrev pub number_of : Refusal → ℕ
-number_of (refusals.Journal fault) = fault_number fault
-number_of (refusals.Disk excuse) = 1
-number_of (refusals.Conflict client) = 3
-number_of refusals.Full = 3
-number_of (refusals.Frame fault) = 4
-number_of refusals.Halted = 4
-number_of refusals.Exhausted = 4
-number_of refusals.Memory = 4
+abbrev pub begin_fault_number : Refusal → ℕ
+begin_fault_number (refusals.Journal fault) = fault_number fault
+begin_fault_number (refusals.Disk excuse) = 1
+begin_fault_number (refusals.Conflict client) = 3
+begin_fault_number refusals.Full = 3
+begin_fault_number refusal = 4

@@ -7,8 +7,8 @@ abbrev pub is_grown : ℕ → ℕ → Bool
 is_grown base growth = nat_lt base growth && nat_lt LEAST_GROWTH growth
 
 -- the length of the file that changed; if that is not one of them, the greater length
-abbrev pub base_of : ℕ × ℕ → ℕ × ℕ → ℕ
-base_of before after =
+abbrev pub changed_length : ℕ × ℕ → ℕ × ℕ → ℕ
+changed_length before after =
     if (before.0 == after.0) && not (before.1 == after.1) then after.1
     else (if (before.1 == after.1) && not (before.0 == after.0) then after.0
     else (if nat_lt after.0 after.1 then after.1 else after.0))

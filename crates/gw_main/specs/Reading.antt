@@ -11,10 +11,10 @@ use Rattle.gw_main.specs.declared.fault.Key.TheVariants as keys
 use Rattle.gw_main.specs.declared.fault.SettingsFault.{SettingsFault}
 use Rattle.gw_main.specs.declared.fault.SettingsFault.TheVariants as faults
 use Rattle.gw_main.specs.declared.options.Settings.{Settings}
-use Rattle.gw_main.specs.Addresses.{address_of}
-use Rattle.gw_main.specs.Keys.{name_of}
+use Rattle.gw_main.specs.Addresses.{read_address}
+use Rattle.gw_main.specs.Keys.{key_text}
 use Rattle.gw_main.specs.Patterns.{is_pattern}
-use Rattle.gw_main.specs.Levels.{level_of}
+use Rattle.gw_main.specs.Levels.{read_level}
 
 -- ---- values
 
@@ -30,7 +30,7 @@ number_in low high missing (Some found) = option_and_then (within low high) (as_
 
 -- the address that is found as a text `a.b.c.d:port`; none if nothing is found or it is no address
 abbrev pub address_in : Option Data → Option Addr
-address_in found = option_and_then address_of (option_and_then as_str found)
+address_in found = option_and_then read_address (option_and_then as_str found)
 
 -- the octets of the text that is found; none if nothing is found or it is no text
 abbrev pub text_in : Option Data → Option (List ℕ)
@@ -49,7 +49,7 @@ list_in read (Some found) = option_and_then (each read) (as_array found)
 
 -- an item that is the text of an address
 abbrev pub address_item : Data → Option Addr
-address_item found = option_and_then address_of (as_str found)
+address_item found = option_and_then read_address (as_str found)
 
 -- a topic's name: 1 to 256 octets without a wildcard
 abbrev pub name_in : Option Data → Option (List ℕ)
@@ -85,7 +85,7 @@ optional read (Some found) = option_map (λ value. Some value) (read found)
 
 -- an item that is the word of a level, as its number
 abbrev pub level_item : Data → Option ℕ
-level_item found = option_and_then level_of (as_str found)
+level_item found = option_and_then read_level (as_str found)
 
 -- the number of the level that is found; 0 if nothing is found
 abbrev pub level_in : Option Data → Option ℕ
@@ -99,84 +99,85 @@ table_from entries = if is_table entries then Some entries else None
 -- ---- keys
 
 -- what the document has under a key
-abbrev pub at : Key → Members → Option Data
-at key members = get_member (name_of key) members
+abbrev pub value_at : Key → Members → Option Data
+value_at key members = get_member (key_text key) members
 
 -- the gateway's number: 1 to 255, with no default
 abbrev pub gateway_in : Members → Option ℕ
-gateway_in members = number_in 1 255 None (at keys.Gateway members)
+gateway_in members = number_in 1 255 None (value_at keys.Gateway members)
 
 -- the address of the UDP socket, with no default
 abbrev pub listen_in : Members → Option Addr
-listen_in members = address_in (at keys.Listen members)
+listen_in members = address_in (value_at keys.Listen members)
 
 -- the address at which links are accepted, with no default
 abbrev pub link_in : Members → Option Addr
-link_in members = address_in (at keys.Link members)
+link_in members = address_in (value_at keys.Link members)
 
 -- the path of the journal, with no default
 abbrev pub journal_in : Members → Option (List ℕ)
-journal_in members = text_in (at keys.Journal members)
+journal_in members = text_in (value_at keys.Journal members)
 
 -- how many threads make calls for datagrams: 1 to 8; 2 if it is not said
 abbrev pub workers_in : Members → Option ℕ
-workers_in members = number_in 1 8 (Some 2) (at keys.Workers members)
+workers_in members = number_in 1 8 (Some 2) (value_at keys.Workers members)
 
 -- how many calls a shift has: 1 to 4,096; 4,096 if it is not said
-abbrev pub steps_in : Members → Option ℕ
-steps_in members = number_in 1 MAX_STEPS (Some MAX_STEPS) (at keys.Steps members)
+abbrev pub shift_steps_in : Members → Option ℕ
+shift_steps_in members = number_in 1 MAX_STEPS (Some MAX_STEPS) (value_at keys.Steps members)
 
 -- the seconds between two ADVERTISE; 0, for no ADVERTISE, if it is not said
 abbrev pub advertise_in : Members → Option ℕ
-advertise_in members = number_in 0 65535 (Some 0) (at keys.Advertise members)
+advertise_in members = number_in 0 65535 (Some 0) (value_at keys.Advertise members)
 
 -- for how many seconds a message waits at most, up to a year; 0, for no such time, if it is not
 -- said
 abbrev pub lifetime_in : Members → Option ℕ
-lifetime_in members = number_in 0 31536000 (Some 0) (at keys.Lifetime members)
+lifetime_in members = number_in 0 31536000 (Some 0) (value_at keys.Lifetime members)
 
 -- the addresses to which ADVERTISE goes; none if it is not said
 abbrev pub field_in : Members → Option (List Addr)
-field_in members = list_in address_item (at keys.Field members)
+field_in members = list_in address_item (value_at keys.Field members)
 
 -- the addresses of the gateways to be dialled; none if it is not said
 abbrev pub peers_in : Members → Option (List Addr)
-peers_in members = list_in address_item (at keys.Peers members)
+peers_in members = list_in address_item (value_at keys.Peers members)
 
 -- the predefined topic ids with their names; none if it is not said
 abbrev pub predefined_in : Members → Option Entries
-predefined_in members = option_and_then table_from (list_in entry_item (at keys.Predefined members))
+predefined_in members =
+    option_and_then table_from (list_in entry_item (value_at keys.Predefined members))
 
 -- the gateways that may be linked; none if it is not said
 abbrev pub numbers_in : Members → Option (List ℕ)
-numbers_in members = list_in number_item (at keys.Numbers members)
+numbers_in members = list_in number_item (value_at keys.Numbers members)
 
 -- the patterns of client ids that are let in; none if it is not said
 abbrev pub clients_in : Members → Option (List (List ℕ))
-clients_in members = list_in pattern_item (at keys.Clients members)
+clients_in members = list_in pattern_item (value_at keys.Clients members)
 
 -- how many new client ids come in within a minute; 0, for any number, if it is not said
 abbrev pub newcomers_in : Members → Option ℕ
-newcomers_in members = number_in 0 65535 (Some 0) (at keys.Newcomers members)
+newcomers_in members = number_in 0 65535 (Some 0) (value_at keys.Newcomers members)
 
 -- the address at which the gateway shows itself, if it is said
 abbrev pub status_in : Members → Option (Option Addr)
-status_in members = optional address_item (at keys.Status members)
+status_in members = optional address_item (value_at keys.Status members)
 
 -- the greatest number of a level whose events are written; 0, for none, if it is not said
 abbrev pub log_in : Members → Option ℕ
-log_in members = level_in (at keys.Log members)
+log_in members = level_in (value_at keys.Log members)
 
 -- ---- the whole
 
 -- the settings hold what the document says of each key, or the key's default
-pub record Says (members : Members) (settings : Settings) : Type 0 where
+pub record SaysSettings (members : Members) (settings : Settings) : Type 0 where
   pub gateway : gateway_in members ≡ Some settings.gateway
   pub listen : listen_in members ≡ Some settings.listen
   pub link : link_in members ≡ Some settings.link
   pub journal : journal_in members ≡ Some (string_bytes settings.journal)
   pub workers : workers_in members ≡ Some settings.workers
-  pub steps : steps_in members ≡ Some settings.steps
+  pub steps : shift_steps_in members ≡ Some settings.steps
   pub advertise : advertise_in members ≡ Some settings.advertise
   pub lifetime : lifetime_in members ≡ Some settings.lifetime
   pub field : field_in members ≡ Some settings.field.items
@@ -202,7 +203,7 @@ first_bad members =
     (or_else (link_in members) keys.Link
     (or_else (journal_in members) keys.Journal
     (or_else (workers_in members) keys.Workers
-    (or_else (steps_in members) keys.Steps
+    (or_else (shift_steps_in members) keys.Steps
     (or_else (advertise_in members) keys.Advertise
     (or_else (lifetime_in members) keys.Lifetime
     (or_else (field_in members) keys.Field
@@ -215,13 +216,13 @@ first_bad members =
     (or_else (log_in members) keys.Log None)))))))))))))))
 
 -- the text is a document that says these settings
-abbrev pub IsRead : List ℕ → Settings → Type 0
-IsRead text settings =
-    (members : Members) × (parse_document text ≡ Some members) × Says members settings
+abbrev pub IsSettingsText : List ℕ → Settings → Type 0
+IsSettingsText text settings =
+    (members : Members) × (parse_document text ≡ Some members) × SaysSettings members settings
 
 -- why a text is refused: it is no document, or this key is the first bad one, or memory ran out
-abbrev pub IsRefused : List ℕ → SettingsFault → Type 0
-IsRefused text faults.Text = parse_document text ≡ None
-IsRefused text (faults.Key key) =
+abbrev pub IsTextFault : List ℕ → SettingsFault → Type 0
+IsTextFault text faults.Text = parse_document text ≡ None
+IsTextFault text (faults.Key key) =
     (members : Members) × (parse_document text ≡ Some members) × (first_bad members ≡ Some key)
-IsRefused text faults.Memory = Unit {0}
+IsTextFault text faults.Memory = Unit {0}

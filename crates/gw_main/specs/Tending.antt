@@ -33,11 +33,12 @@ abbrev pub OpensAnew : {D : Type 0} {G : Ghosts D} → State G → State G → T
 OpensAnew old new = (out : Out) × ReopenCall old (Ok out) new
 
 -- A gateway that goes on is compacted. If the disk fails in that, the gateway is opened again.
-abbrev pub EndsAs : {D : Type 0} {G : Ghosts D} → State G → Tended → State G → Type 0
-EndsAs old Kept new = CompactsIfMay old new
-EndsAs old Starved new = CompactsLater old new
-EndsAs old Reopened new = ⊥
-EndsAs {G = G} old Unwritten new = (failed : State G) × CompactsNot old failed × OpensAnew failed new
+abbrev pub TendingEndsAs : {D : Type 0} {G : Ghosts D} → State G → Tended → State G → Type 0
+TendingEndsAs old Kept new = CompactsIfMay old new
+TendingEndsAs old Starved new = CompactsLater old new
+TendingEndsAs old Reopened new = ⊥
+TendingEndsAs {G = G} old Unwritten new =
+    (failed : State G) × CompactsNot old failed × OpensAnew failed new
 
 -- and that is refused
 abbrev pub EndsRefused : {D : Type 0} {G : Ghosts D} → State G → Refusal → State G → Type 0
@@ -48,19 +49,19 @@ EndsRefused {G = G} old refusal new = (failed : State G) × CompactsNot old fail
 abbrev pub EndsOpened : {D : Type 0} {G : Ghosts D} → State G → Tended → State G → Type 0
 EndsOpened {G = G} old tended new =
     (is_halted old ≡ true)
-    × ((opened : State G) × OpensAnew old opened × EndsAs opened tended new)
+    × ((opened : State G) × OpensAnew old opened × TendingEndsAs opened tended new)
 
 -- A gateway that goes on is compacted. One that is halted is opened again first.
 abbrev pub IsTended : {D : Type 0} {G : Ghosts D} → State G → Tended → State G → Type 0
-IsTended old Kept new = (is_halted old ≡ false) × EndsAs old Kept new
-IsTended old Starved new = (is_halted old ≡ false) × EndsAs old Starved new
+IsTended old Kept new = (is_halted old ≡ false) × TendingEndsAs old Kept new
+IsTended old Starved new = (is_halted old ≡ false) × TendingEndsAs old Starved new
 IsTended old Reopened new = EndsOpened old Kept new ⊎ EndsOpened old Starved new
 IsTended old Unwritten new =
-    ((is_halted old ≡ false) × EndsAs old Unwritten new) ⊎ EndsOpened old Unwritten new
+    ((is_halted old ≡ false) × TendingEndsAs old Unwritten new) ⊎ EndsOpened old Unwritten new
 
 -- it could not be opened again, before the compaction or after it
-abbrev pub IsGivenUp : {D : Type 0} {G : Ghosts D} → State G → Refusal → State G → Type 0
-IsGivenUp {G = G} old refusal new =
+abbrev pub IsNotOpened : {D : Type 0} {G : Ghosts D} → State G → Refusal → State G → Type 0
+IsNotOpened {G = G} old refusal new =
     ((is_halted old ≡ false) × EndsRefused old refusal new)
     ⊎ ((is_halted old ≡ true)
     × (ReopenCall old (Err refusal) new

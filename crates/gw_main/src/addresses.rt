@@ -1,7 +1,7 @@
 //! Addresses as `a.b.c.d:port`.
 
 ghost use Rattle.std.specs.Prelude.{◌≡◌, ◌==◌, ◌<◌, length, position, IfSome, option_map};
-ghost use Rattle.gw_main.specs.Addresses.{host_of, address_of};
+ghost use Rattle.gw_main.specs.Addresses.{host_of, read_address};
 ghost use Rattle.gw_main.specs.Addresses as spec;
 
 use super::number::{number_u8, number_u16};
@@ -53,7 +53,7 @@ fn host(text: &[u8]) -> Option<u32>
 /// The address that a text writes as `a.b.c.d:port`: numbers in decimal digits, without a sign,
 /// those of the host below 256 and the port below 65,536. Nothing where it writes none.
 pub fn address(text: &[u8]) -> Option<Addr>
-    ensures { result ≡ address_of text.now }
+    ensures { result ≡ read_address text.now }
 {
     let (before, behind) = cut(text, b':')?;
     let host = host(before)?;

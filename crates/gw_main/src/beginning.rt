@@ -7,9 +7,9 @@ ghost use Rattle.rep_model.specs.Views as views;
 ghost use Rattle.jr_disk.specs.Disk.{image};
 ghost use Rattle.jr_journal.specs.Records.{records};
 ghost use Rattle.gw_node.specs.Parts.{state_of, records_of};
-ghost use Rattle.gw_answer.specs.Answers.{told};
+ghost use Rattle.gw_answer.specs.Answers.{refusal_of_fault};
 ghost use Rattle.gw_node.specs.Keeping.{Keeps};
-ghost use Rattle.gw_node.specs.Taking.{StandsFor, HasTaken};
+ghost use Rattle.gw_node.specs.Taking.{RecoversTo, HasTaken};
 ghost use Rattle.gw_node.specs.Opening.{IsStarted, MayRefuse};
 ghost use Rattle.gw_main.specs.Beginning as spec;
 ghost use Rattle.gw_answer.specs.declared.fault.NodeFault.TheVariants as faults;
@@ -50,12 +50,12 @@ pub fn begin<R: Replica, D: Disk + Drop, O: Write, E: Write>(
         (state_of R.kept node).kept) }
     // Whatever set the gateway had taken before it stopped, it has taken again,
     ensures restarts { D.honest → IfOk result (λ node. (S : List Op) (refused : List (List Op))
-        → StandsFor settings.now.gateway S refused (image (D.slots disk))
+        → RecoversTo settings.now.gateway S refused (image (D.slots disk))
         → HasTaken (S ++ all_of (records settings.now.gateway (image (D.slots disk)))) []
         (state_of R.kept node)) }
     // and nothing beside it if nothing was refused.
     ensures durable { D.honest → IfOk result (λ node. (S : List Op)
-        → StandsFor settings.now.gateway S [] (image (D.slots disk))
+        → RecoversTo settings.now.gateway S [] (image (D.slots disk))
         → HasTaken S [] (state_of R.kept node)) }
     ensures status { IfErr result (λ status. status ≡ 2) }
 {
@@ -65,7 +65,7 @@ pub fn begin<R: Replica, D: Disk + Drop, O: Write, E: Write>(
             Ok(node)
         }
         Err(fault) => {
-            let number = number_of(&fault);
+            let number = begin_fault_number(&fault);
             drop(fault);
             print_refused(err, number);
             Err(NO_JOURNAL)
@@ -101,15 +101,15 @@ fn open<R: Replica, D: Disk + Drop>(
         Keeps (all_of (records settings.now.gateway (image (D.slots disk))))
         (state_of R.kept opened.0).kept) }
     ensures restarts { D.honest → IfOk result (λ opened. (S : List Op) (refused : List (List Op))
-        → StandsFor settings.now.gateway S refused (image (D.slots disk))
+        → RecoversTo settings.now.gateway S refused (image (D.slots disk))
         → HasTaken (S ++ all_of (records settings.now.gateway (image (D.slots disk)))) []
         (state_of R.kept opened.0)) }
     ensures durable { D.honest → IfOk result (λ opened. (S : List Op)
-        → StandsFor settings.now.gateway S [] (image (D.slots disk))
+        → RecoversTo settings.now.gateway S [] (image (D.slots disk))
         → HasTaken S [] (state_of R.kept opened.0)) }
     ensures clients { IfOk result (λ opened. opened.1
         ≡ length (views.clients (state_of R.kept opened.0).kept)) }
-    ensures may { IfErr result (λ fault. MayRefuse (told fault)) }
+    ensures may { IfErr result (λ fault. MayRefuse (refusal_of_fault fault)) }
 {
     let Ok(config) = config_of(alloc, settings) else {
         drop(disk);
@@ -166,8 +166,8 @@ fn config_of(alloc: Global, settings: &Settings) -> Result<Config, NoMemory>
 /// The number of the journal's fault by which a refused opening is told: 1 the disk failed; 2 the
 /// slots are no journal of this gateway; 3 a record is damaged, or does not fit to those before it;
 /// 4 memory ran out.
-pub fn number_of(fault: &NodeFault) -> u8
-    ensures { result ≡ spec.number_of (told fault.now) }
+pub fn begin_fault_number(fault: &NodeFault) -> u8
+    ensures { result ≡ spec.begin_fault_number (refusal_of_fault fault.now) }
 {
     match fault {
         NodeFault::Journal { fault } => fault.number(),

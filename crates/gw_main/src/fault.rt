@@ -1,7 +1,7 @@
 //! Why settings are refused.
 
 ghost use Rattle.std.specs.Prelude.{◌≡◌};
-ghost use Rattle.gw_main.specs.Keys.{name_of};
+ghost use Rattle.gw_main.specs.Keys.{key_text};
 ghost use Rattle.gw_main.specs.declared.fault.SettingsFault.TheVariants.{Memory};
 
 use octets::NoMemory;
@@ -55,7 +55,7 @@ pub enum Key {
 impl Key {
     /// How the key is written.
     pub fn name(self) -> &'static str
-        ensures { result.now ≡ name_of self }
+        ensures { result.now ≡ key_text self }
     {
         match self {
             Key::Gateway => "gateway",

@@ -22,8 +22,8 @@ pub fn is_grown(base: u64, growth: u64) -> bool
 /// How many octets a journal has that was just written anew. Its two files had these lengths before
 /// and after that. It is the file whose length changed, or the longer one if both changed, or
 /// neither.
-pub fn base_of(before: (u64, u64), after: (u64, u64)) -> u64
-    ensures { result ≡ spec.base_of before after }
+pub fn changed_length(before: (u64, u64), after: (u64, u64)) -> u64
+    ensures { result ≡ spec.changed_length before after }
 {
     if before.0 == after.0 && before.1 != after.1 {
         return after.1;
@@ -58,9 +58,9 @@ pub fn next_try(last: u64) -> u64
 }
 
 /// How many seconds a gateway waits after a shift before it opens its journal and tries again:
-/// nothing where its writes go out. A first shift with a failed write makes it wait for none, as one
-/// try may be enough; each later one for a next try, until there is a shift in which something was
-/// recorded and all of it went out.
+/// nothing where its writes go out. A first shift with a failed write makes it wait for none, as
+/// one try may be enough; each later one for a next try, until there is a shift in which something
+/// was recorded and all of it went out.
 pub fn next_wait(last: Option<u64>, has_recorded: bool, has_failed: bool) -> Option<u64>
     ensures { result ≡ spec.next_wait last has_recorded has_failed }
 {

@@ -3,8 +3,8 @@
 ghost use Rattle.std.specs.Prelude.{◌≡◌, ◌≤◌, IfOk, IfErr, IfSome, Some, None, option_map, string_bytes};
 ghost use Rattle.toml.specs.Data.{get_member};
 ghost use Rattle.toml.specs.View.{view, table_view};
-ghost use Rattle.gw_main.specs.Addresses.{address_of};
-ghost use Rattle.gw_main.specs.Reading.{address_in, text_in, at};
+ghost use Rattle.gw_main.specs.Addresses.{read_address};
+ghost use Rattle.gw_main.specs.Reading.{address_in, text_in, value_at};
 ghost use Rattle.gw_main.specs.Reading as spec;
 ghost use Rattle.gw_main.specs.inner.Reading.{IsBadAt};
 
@@ -65,11 +65,11 @@ pub(crate) fn number_at(
 ) -> Result<u64, SettingsFault>
     requires { IfSome missing (λ number. number ≤ high) }
     ensures ok { IfOk result
-        (λ number. spec.number_in low high missing (at key (table_view table.now))
+        (λ number. spec.number_in low high missing (value_at key (table_view table.now))
         ≡ Some number) }
     ensures most { IfOk result (λ number. number ≤ high) }
     ensures err { IfErr result (IsBadAt (spec.number_in low high missing
-        (at key (table_view table.now))) key) }
+        (value_at key (table_view table.now))) key) }
 {
     match number_in(found(table, key.name()), low, high, missing) {
         None => Err(SettingsFault::Key(key)),
@@ -89,8 +89,9 @@ pub(crate) fn address_item(value: &Value) -> Option<Addr>
 
 /// The address at a key.
 pub(crate) fn address_at(table: &Table, key: Key) -> Result<Addr, SettingsFault>
-    ensures ok { IfOk result (λ addr. address_in (at key (table_view table.now)) ≡ Some addr) }
-    ensures err { IfErr result (IsBadAt (address_in (at key (table_view table.now))) key) }
+    ensures ok { IfOk result
+        (λ addr. address_in (value_at key (table_view table.now)) ≡ Some addr) }
+    ensures err { IfErr result (IsBadAt (address_in (value_at key (table_view table.now))) key) }
 {
     match found(table, key.name()) {
         None => Err(SettingsFault::Key(key)),
@@ -104,10 +105,10 @@ pub(crate) fn address_at(table: &Table, key: Key) -> Result<Addr, SettingsFault>
 /// The address at a key, if it is there.
 pub(crate) fn optional_address_at(table: &Table, key: Key) -> Result<Option<Addr>, SettingsFault>
     ensures ok { IfOk result
-        (λ addr. spec.optional spec.address_item (at key (table_view table.now))
+        (λ addr. spec.optional spec.address_item (value_at key (table_view table.now))
         ≡ Some addr) }
     ensures err { IfErr result (IsBadAt (spec.optional spec.address_item
-        (at key (table_view table.now))) key) }
+        (value_at key (table_view table.now))) key) }
 {
     match found(table, key.name()) {
         None => Ok(None),
@@ -130,8 +131,9 @@ fn level_item(value: &Value) -> Option<u8>
 
 /// The level at a key; 0 if it is not there.
 pub(crate) fn level_at(table: &Table, key: Key) -> Result<u8, SettingsFault>
-    ensures ok { IfOk result (λ level. spec.level_in (at key (table_view table.now)) ≡ Some level) }
-    ensures err { IfErr result (IsBadAt (spec.level_in (at key (table_view table.now))) key) }
+    ensures ok { IfOk result
+        (λ level. spec.level_in (value_at key (table_view table.now)) ≡ Some level) }
+    ensures err { IfErr result (IsBadAt (spec.level_in (value_at key (table_view table.now))) key) }
 {
     match found(table, key.name()) {
         None => Ok(0),
@@ -144,9 +146,9 @@ pub(crate) fn level_at(table: &Table, key: Key) -> Result<u8, SettingsFault>
 
 /// The text at a key.
 pub(crate) fn text_at(alloc: Global, table: &Table, key: Key) -> Result<String, SettingsFault>
-    ensures ok { IfOk result (λ text. text_in (at key (table_view table.now))
+    ensures ok { IfOk result (λ text. text_in (value_at key (table_view table.now))
         ≡ Some (string_bytes text)) }
-    ensures err { IfErr result (IsBadAt (text_in (at key (table_view table.now))) key) }
+    ensures err { IfErr result (IsBadAt (text_in (value_at key (table_view table.now))) key) }
 {
     match found(table, key.name()) {
         None => Err(SettingsFault::Key(key)),

@@ -5,7 +5,7 @@ ghost use Rattle.gw_main.specs.Levels as spec;
 
 /// The number of a level, as syslog has it (RFC 5424 section 6.2.1), by its word.
 pub(crate) fn level(word: &[u8]) -> Option<u8>
-    ensures { result ≡ spec.level_of word.now }
+    ensures { result ≡ spec.read_level word.now }
 {
     if word == b"err".as_slice() {
         Some(3)

@@ -38,10 +38,10 @@ mod patterns;
 mod tending;
 
 pub use addresses::address;
-pub use beginning::{NO_JOURNAL, begin, number_of};
+pub use beginning::{NO_JOURNAL, begin, begin_fault_number};
 pub use fault::{Key, SettingsFault};
-pub use growing::{LEAST_GROWTH, LONGEST_TRY, base_of, is_grown, next_try, next_wait};
-pub use newcomers::{A_MINUTE, counted_in, may_come};
+pub use growing::{LEAST_GROWTH, LONGEST_TRY, changed_length, is_grown, next_try, next_wait};
+pub use newcomers::{NEWCOMERS_SECONDS, counted_in, may_come};
 pub use parsing::settings;
 pub use patterns::{is_like, lets_in};
 pub use tending::{Tended, tend};

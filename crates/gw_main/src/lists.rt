@@ -3,7 +3,7 @@
 ghost use Rattle.std.specs.Prelude.{◌≡◌, ◌<◌, ◌^◌, ◌++◌, ℕ, IfOk, IfErr, IfSome, Ok, Some, None, option_map};
 ghost use Rattle.toml.specs.View.{view, items_view, table_view};
 ghost use Rattle.sn_topic.specs.Topics.{name_asked};
-ghost use Rattle.gw_main.specs.Reading.{each, list_in, entry_item, at, predefined_in};
+ghost use Rattle.gw_main.specs.Reading.{each, list_in, entry_item, value_at, predefined_in};
 ghost use Rattle.gw_main.specs.Reading as spec;
 ghost use Rattle.gw_main.specs.inner.Reading.{IsBadAt};
 ghost use Rattle.gw_main.specs.declared.fault.Key.TheVariants as keys;
@@ -45,10 +45,10 @@ pub(crate) fn addresses_at(
     table: &Table,
     key: Key,
 ) -> Result<Vec<Addr>, SettingsFault>
-    ensures ok { IfOk result (λ all. list_in spec.address_item (at key (table_view table.now))
+    ensures ok { IfOk result (λ all. list_in spec.address_item (value_at key (table_view table.now))
         ≡ Some all.items) }
     ensures err { IfErr result (IsBadAt (list_in spec.address_item
-        (at key (table_view table.now))) key) }
+        (value_at key (table_view table.now))) key) }
 {
     match found(table, key.name()) {
         None => Ok(Vec::new(alloc)),
@@ -247,10 +247,11 @@ fn entries(alloc: Global, items: &[Value]) -> Result<Vec<(u16, TopicName)>, Sett
 
 /// The entries under the key of the predefined topic ids; none where it is not there.
 fn entries_at(alloc: Global, table: &Table) -> Result<Vec<(u16, TopicName)>, SettingsFault>
-    ensures ok { IfOk result (λ all. list_in entry_item (at keys.Predefined (table_view table.now))
+    ensures ok { IfOk result
+        (λ all. list_in entry_item (value_at keys.Predefined (table_view table.now))
         ≡ Some all.items) }
     ensures err { IfErr result (IsBadAt (list_in entry_item
-        (at keys.Predefined (table_view table.now))) keys.Predefined) }
+        (value_at keys.Predefined (table_view table.now))) keys.Predefined) }
 {
     match found(table, Key::Predefined.name()) {
         None => Ok(Vec::new(alloc)),

@@ -4,14 +4,14 @@ ghost use Rattle.std.specs.Prelude.{◌≡◌};
 ghost use Rattle.gw_main.specs.Newcomers as spec;
 
 /// How many seconds newcomers are counted together.
-pub const A_MINUTE: u64 = 60;
+pub const NEWCOMERS_SECONDS: u64 = 60;
 
 /// Since which second newcomers are counted, and how many came in since then, as it is in a second:
 /// they are counted anew where a minute is over.
 pub fn counted_in(counted: (u64, u16), second: u64) -> (u64, u16)
     ensures { result ≡ spec.counted_in counted second }
 {
-    if second.saturating_sub(counted.0) >= A_MINUTE {
+    if second.saturating_sub(counted.0) >= NEWCOMERS_SECONDS {
         return (second, 0);
     }
     counted

@@ -3,7 +3,7 @@
 ghost use Rattle.std.specs.Prelude.{◌≡◌, ◌≤◌, IfOk, IfErr, Some};
 ghost use Rattle.toml.specs.Data.{Members};
 ghost use Rattle.toml.specs.View.{table_view};
-ghost use Rattle.gw_main.specs.Reading.{Says, IsRead, IsRefused};
+ghost use Rattle.gw_main.specs.Reading.{SaysSettings, IsSettingsText, IsTextFault};
 ghost use Rattle.gw_main.specs.inner.Reading.{SaysPlain, SaysLists, SaysShown, IsBad, IsBadAfter, IsBadLast};
 
 use super::fault::{Key, SettingsFault};
@@ -23,8 +23,8 @@ use toml::Table;
 /// The faults: `Text`, the text is no TOML document; `Key`, the first key that is missing without a
 /// default, out of range or of another kind; or `Memory`.
 pub fn settings(alloc: Global, text: &str) -> Result<Settings, SettingsFault>
-    ensures ok { IfOk result (IsRead text.now) }
-    ensures err { IfErr result (IsRefused text.now) }
+    ensures ok { IfOk result (IsSettingsText text.now) }
+    ensures err { IfErr result (IsTextFault text.now) }
 {
     match toml::table_from_str(alloc, text) {
         Ok(table) => settings_of(alloc, &table),
@@ -71,7 +71,7 @@ pub(crate) struct Shown {
 
 /// What a document says.
 fn settings_of(alloc: Global, table: &Table) -> Result<Settings, SettingsFault>
-    ensures ok { IfOk result (Says (table_view table.now)) }
+    ensures ok { IfOk result (SaysSettings (table_view table.now)) }
     ensures err { IfErr result (IsBad (table_view table.now)) }
 {
     match plain_of(alloc, table) {
@@ -83,7 +83,7 @@ fn settings_of(alloc: Global, table: &Table) -> Result<Settings, SettingsFault>
 /// What a document says, whose keys before the lists were read.
 fn with_lists(alloc: Global, table: &Table, plain: Plain) -> Result<Settings, SettingsFault>
     requires plain { SaysPlain (table_view table.now) plain }
-    ensures ok { IfOk result (Says (table_view table.now)) }
+    ensures ok { IfOk result (SaysSettings (table_view table.now)) }
     ensures err { IfErr result (IsBad (table_view table.now)) }
 {
     match lists_of(alloc, table) {
@@ -99,7 +99,7 @@ fn with_lists(alloc: Global, table: &Table, plain: Plain) -> Result<Settings, Se
 fn with_shown(table: &Table, plain: Plain, lists: Lists) -> Result<Settings, SettingsFault>
     requires plain { SaysPlain (table_view table.now) plain }
     requires lists { SaysLists (table_view table.now) lists }
-    ensures ok { IfOk result (Says (table_view table.now)) }
+    ensures ok { IfOk result (SaysSettings (table_view table.now)) }
     ensures err { IfErr result (IsBad (table_view table.now)) }
 {
     match shown_of(table) {
@@ -115,7 +115,7 @@ fn with_shown(table: &Table, plain: Plain, lists: Lists) -> Result<Settings, Set
 /// Settings of all parts.
 fn joined(plain: Plain, lists: Lists, shown: Shown) -> Settings
     ensures { (members : Members) → SaysPlain members plain → SaysLists members lists
-        → SaysShown members shown → Says members result }
+        → SaysShown members shown → SaysSettings members result }
 {
     Settings {
         gateway: plain.gateway,

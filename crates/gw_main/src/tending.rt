@@ -3,10 +3,10 @@
 ghost use Rattle.std.specs.Prelude.{◌≡◌, true, false, OnOk, OnErr, IfErr, MatchResult};
 ghost use Rattle.gw_node.specs.Parts.{state_of};
 ghost use Rattle.gw_node.specs.Parts as spec;
-ghost use Rattle.gw_answer.specs.Answers.{told};
+ghost use Rattle.gw_answer.specs.Answers.{refusal_of_fault};
 ghost use Rattle.gw_node.specs.Opening.{ReopenCall};
 ghost use Rattle.gw_node.specs.Carrying.{TakesNothing, TakesAgain};
-ghost use Rattle.gw_main.specs.Tending.{OpensAnew, EndsAs, EndsRefused, IsTended, IsGivenUp, TakesOn};
+ghost use Rattle.gw_main.specs.Tending.{OpensAnew, TendingEndsAs, EndsRefused, IsTended, IsNotOpened, TakesOn};
 
 use gw_node::{Node, NodeFault};
 use jr_journal::Disk;
@@ -43,7 +43,8 @@ pub fn tend<R: Replica, D: Disk + Drop>(
     ensures runs { OnOk result (spec.is_halted (state_of R.kept node.new) ≡ false) }
     ensures halts { OnErr result (spec.is_halted (state_of R.kept node.new) ≡ true) }
     ensures tended { MatchResult result (λ tended. IsTended (state_of R.kept node.old) tended
-        (state_of R.kept node.new)) (λ fault. IsGivenUp (state_of R.kept node.old) (told fault)
+        (state_of R.kept node.new)) (λ fault. IsNotOpened (state_of R.kept node.old)
+        (refusal_of_fault fault)
         (state_of R.kept node.new)) }
     ensures taken { D.honest → TakesOn (state_of R.kept node.old) (state_of R.kept node.new) }
 {
@@ -66,7 +67,8 @@ fn open_anew<R: Replica, D: Disk + Drop>(
     node: &mut Node<R, D>,
 ) -> Result<(), NodeFault>
     ensures ok { OnOk result (OpensAnew (state_of R.kept node.old) (state_of R.kept node.new)) }
-    ensures err { IfErr result (λ fault. ReopenCall (state_of R.kept node.old) (Err (told fault))
+    ensures err { IfErr result
+        (λ fault. ReopenCall (state_of R.kept node.old) (Err (refusal_of_fault fault))
         (state_of R.kept node.new)) }
     ensures again { OnOk result (TakesAgain (state_of R.kept node.old) (state_of R.kept node.new)) }
     ensures nothing { OnErr result (TakesNothing (state_of R.kept node.old)
@@ -87,8 +89,9 @@ fn compact<R: Replica, D: Disk + Drop>(
     requires { spec.is_halted (state_of R.kept node.old) ≡ false }
     ensures runs { OnOk result (spec.is_halted (state_of R.kept node.new) ≡ false) }
     ensures halts { OnErr result (spec.is_halted (state_of R.kept node.new) ≡ true) }
-    ensures ends { MatchResult result (λ tended. EndsAs (state_of R.kept node.old) tended
-        (state_of R.kept node.new)) (λ fault. EndsRefused (state_of R.kept node.old) (told fault)
+    ensures ends { MatchResult result (λ tended. TendingEndsAs (state_of R.kept node.old) tended
+        (state_of R.kept node.new)) (λ fault. EndsRefused (state_of R.kept node.old)
+        (refusal_of_fault fault)
         (state_of R.kept node.new)) }
     ensures taken { D.honest → TakesOn (state_of R.kept node.old) (state_of R.kept node.new) }
 {

@@ -9,11 +9,11 @@ use Rattle.rep_read.proofs.Laws.{extended, number_law, wide32, ok_is}
 use Rattle.rep_ops.specs.Spelling.{max_octets}
 use Rattle.gw_net.specs.declared.fault.LinkFault.TheVariants as faults
 use Rattle.gw_net.specs.declared.message.LinkMessage.{LinkMessage}
-use Rattle.gw_net.specs.Messages.{kind_of, body_of, spelling, IsMessage}
-use Rattle.gw_net.specs.Streams.{Front, sized_at, front, IsRead}
+use Rattle.gw_net.specs.Messages.{message_kind, body_of_message, message_spelling, IsLinkMessage}
+use Rattle.gw_net.specs.Streams.{Front, front_sized, front, IsRead}
 use Rattle.gw_net.proofs.Joining.{failing, given_is, front_again, short_body, known_kind}
 
-pub one_message : (m n : LinkMessage) (x y : List ℕ) → IsMessage m → IsMessage n → spelling m ++ x ≡ spelling n ++ y → (m ≡ n) × (x ≡ y)
+pub one_message : (m n : LinkMessage) (x y : List ℕ) → IsLinkMessage m → IsLinkMessage n → message_spelling m ++ x ≡ message_spelling n ++ y → (m ≡ n) × (x ≡ y)
 one_message m n x y hm hn e =
     let same : (m, x) ≡ (n, y) = given_is (m, x) (n, y) (sym (front_again m x hm) ∙ ap front e ∙ front_again n y hn) in
     (ap (λ (p : LinkMessage × List ℕ). p.0) same, ap (λ (p : LinkMessage × List ℕ). p.1) same)
@@ -28,7 +28,7 @@ abbrev waiting : Front
 waiting = Ok None
 
 -- its length is there, and not all of its body
-cut_body : (kind : ℕ) (body rest : List ℕ) (r : Result (ℕ × List ℕ) OpsFault) → length body ≤ max_octets → rest ≢ [] → extended rest r ≡ Ok (length body, body) → sized_at kind r ≡ waiting
+cut_body : (kind : ℕ) (body rest : List ℕ) (r : Result (ℕ × List ℕ) OpsFault) → length body ≤ max_octets → rest ≢ [] → extended rest r ≡ Ok (length body, body) → front_sized kind r ≡ waiting
 cut_body kind body rest (Ok x) short some e =
     let pair : (x.0, x.1 ++ rest) ≡ (length body, body) = ok_is (x.0, x.1 ++ rest) (length body, body) e in
     let size : x.0 ≡ length body = ap (λ (p : ℕ × List ℕ). p.0) pair in
@@ -39,22 +39,22 @@ cut_body kind body rest (Ok x) short some e =
 cut_body kind body rest (Err f) short some e = absurd cc
 
 -- of its length and its body something is missing
-cut_size : (kind : ℕ) (body bytes rest : List ℕ) → length body ≤ max_octets → rest ≢ [] → to_be_bytes w32 (length body) ++ body ≡ bytes ++ rest → sized_at kind (number_at w32 bytes) ≡ waiting
+cut_size : (kind : ℕ) (body bytes rest : List ℕ) → length body ≤ max_octets → rest ≢ [] → to_be_bytes w32 (length body) ++ body ≡ bytes ++ rest → front_sized kind (number_at w32 bytes) ≡ waiting
 cut_size kind body bytes rest short some e =
     let whole : number_at w32 (bytes ++ rest) ≡ Ok (length body, body) = ap (number_at w32) (sym e) ∙ (number_law w32 (2 ^ 32) wide32).again (length body) body (omega (arith, short)) in
     elim ((number_law w32 (2 ^ 32) wide32).stable bytes rest) [
-      | inl cut ↦ ap (sized_at kind) cut
+      | inl cut ↦ ap (front_sized kind) cut
       | inr same ↦ cut_body kind body rest (number_at w32 bytes) short some (sym same ∙ whole)
     ]
 
-cut_front : (m : LinkMessage) (cut rest : List ℕ) → IsMessage m → spelling m ≡ cut ++ rest → rest ≢ [] → front cut ≡ waiting
+cut_front : (m : LinkMessage) (cut rest : List ℕ) → IsLinkMessage m → message_spelling m ≡ cut ++ rest → rest ≢ [] → front cut ≡ waiting
 unfolding front
 cut_front m [] rest h e some = refl
 cut_front m (kind ∷ bytes) rest h e some =
-    let first : kind_of m ≡ kind = cc in
-    let behind : to_be_bytes w32 (length (body_of m)) ++ body_of m ≡ bytes ++ rest = cc in
-    ap (λ b. if b then sized_at kind (number_at w32 bytes) else failing faults.Kind) (subst (λ (k : ℕ). (nat_le 1 k && nat_le k 3) ≡ true) first (known_kind m))
-    ∙ cut_size kind (body_of m) bytes rest (short_body m h) some behind
+    let first : message_kind m ≡ kind = cc in
+    let behind : to_be_bytes w32 (length (body_of_message m)) ++ body_of_message m ≡ bytes ++ rest = cc in
+    ap (λ b. if b then front_sized kind (number_at w32 bytes) else failing faults.Kind) (subst (λ (k : ℕ). (nat_le 1 k && nat_le k 3) ≡ true) first (known_kind m))
+    ∙ cut_size kind (body_of_message m) bytes rest (short_body m h) some behind
 
-pub cut_waits : (m : LinkMessage) (cut rest : List ℕ) → IsMessage m → spelling m ≡ cut ++ rest → rest ≢ [] → IsRead cut [] None cut
+pub cut_waits : (m : LinkMessage) (cut rest : List ℕ) → IsLinkMessage m → message_spelling m ≡ cut ++ rest → rest ≢ [] → IsRead cut [] None cut
 cut_waits m cut rest h e some = record { all = tt; parts = refl; ends = cut_front m cut rest h e some }

@@ -9,20 +9,20 @@ use Rattle.std.proofs.lemmas.Grind.{flat_map-append}
 use Rattle.byteorder.specs.Endian.{big_bytes}
 use Rattle.rep_op.specs.declared.fault.OpsFault.{OpsFault}
 use Rattle.rep_op.specs.declared.op.Op.{Op}
-use Rattle.rep_ops.specs.Reading.{AreOctets, reading as delta_reading}
+use Rattle.rep_ops.specs.Reading.{AreOctets, delta_reading}
 use Rattle.rep_read.specs.Reading.{number_at}
 use Rattle.rep_ops.specs.Spelling.{max_octets}
 use Rattle.rep_read.proofs.Laws.{IsBytes, Taken, number_law, wide32}
 use Rattle.rep_ops.proofs.Format.{read_spelled as delta_spelled}
 use Rattle.rep_digest.specs.Digests.{Digested}
-use Rattle.rep_digest.specs.Reading.{reading as digest_reading}
+use Rattle.rep_digest.specs.Reading.{digest_reading}
 use Rattle.rep_digest.proofs.Format.{read_spelled as digest_spelled}
 use Rattle.gw_net.specs.declared.fault.LinkFault.{LinkFault}
 use Rattle.gw_net.specs.declared.fault.LinkFault.TheVariants as faults
 use Rattle.gw_net.specs.declared.message.LinkMessage.{LinkMessage}
 use Rattle.gw_net.specs.declared.message.LinkMessage.TheVariants.{Hello, Digest as OfDigest, Delta as OfDelta}
-use Rattle.gw_net.specs.Messages.{kind_of, body_of, spelling, IsMessage, hello_at, read_or_none, message_at}
-use Rattle.gw_net.specs.Streams.{Front, with_body, sized_at, front, Ends, IsRead}
+use Rattle.gw_net.specs.Messages.{message_kind, body_of_message, message_spelling, IsLinkMessage, hello_at, read_or_none, message_at}
+use Rattle.gw_net.specs.Streams.{Front, with_body, front_sized, front, EndsMessages, IsRead}
 
 -- octets that begin with others
 pub octets-right : (xs ys : List ℕ) → AreOctets (xs ++ ys) → AreOctets ys
@@ -35,9 +35,9 @@ octets-left (x ∷ xs) ys h = λ i. elim i as (λ i. slice_index (x ∷ xs) i < 
 
 -- the body of a kind that is a message
 record IsBodyOf (kind : ℕ) (body : List ℕ) (m : LinkMessage) : Type 0 where
-  message : IsMessage m
-  kind_is : kind ≡ kind_of m
-  body_is : body ≡ body_of m
+  message : IsLinkMessage m
+  kind_is : kind ≡ message_kind m
+  body_is : body ≡ body_of_message m
 
 some_is : {X : Type 0} (x y : X) → Some x ≡ Some y → x ≡ y
 some_is x y e = cc
@@ -84,8 +84,8 @@ message_body kind body m low high octets e =
 -- ---- the front
 
 pub record Taken_front (bytes : List ℕ) (m : LinkMessage) (rest : List ℕ) : Type 0 where
-  pub message : IsMessage m
-  pub parts : bytes ≡ spelling m ++ rest
+  pub message : IsLinkMessage m
+  pub parts : bytes ≡ message_spelling m ++ rest
 
 abbrev given : LinkMessage × List ℕ → Front
 given x = Ok (Some x)
@@ -109,7 +109,7 @@ with_some : (o : Option LinkMessage) (rest : List ℕ) (x : LinkMessage × List 
 with_some None rest x e = absurd (not_failing faults.Body x e)
 with_some (Some m) rest x e = let same : (m, rest) ≡ x = given_is (m, rest) x e in (ap (λ (y : LinkMessage × List ℕ). Some y.0) same, ap (λ (y : LinkMessage × List ℕ). y.1) same)
 
-sized_some : (kind : ℕ) (bytes : List ℕ) (r : Result (ℕ × List ℕ) OpsFault) (x : LinkMessage × List ℕ) → 1 ≤ kind → kind ≤ 3 → AreOctets bytes → number_at w32 bytes ≡ r → sized_at kind r ≡ Ok (Some x) → Taken_front (kind ∷ bytes) x.0 x.1
+sized_some : (kind : ℕ) (bytes : List ℕ) (r : Result (ℕ × List ℕ) OpsFault) (x : LinkMessage × List ℕ) → 1 ≤ kind → kind ≤ 3 → AreOctets bytes → number_at w32 bytes ≡ r → front_sized kind r ≡ Ok (Some x) → Taken_front (kind ∷ bytes) x.0 x.1
 sized_some kind bytes (Err f) x low high octets is e = absurd (not_waiting x e)
 sized_some kind bytes (Ok read) x low high octets is e =
     let t = (number_law w32 (2 ^ 32) wide32).takes bytes read octets is in
@@ -123,11 +123,11 @@ sized_some kind bytes (Ok read) x low high octets is e =
             let split : take read.0 read.1 ++ drop read.0 read.1 ≡ read.1 = take-append-drop read.0 read.1 in
             let body_octets = octets-left (take read.0 read.1) (drop read.0 read.1) (subst AreOctets (sym split) t.rest) in
             let b = message_body kind (take read.0 read.1) x.0 low high body_octets w.0 in
-            let size : read.0 ≡ length (body_of x.0) = (let len = length-take read.0 read.1 in omega (arith, len, long)) ∙ ap length b.body_is in
-            let behind : read.1 ≡ body_of x.0 ++ x.1 = sym split ∙ (λ i. b.body_is i ++ w.1 i) in
+            let size : read.0 ≡ length (body_of_message x.0) = (let len = length-take read.0 read.1 in omega (arith, len, long)) ∙ ap length b.body_is in
+            let behind : read.1 ≡ body_of_message x.0 ++ x.1 = sym split ∙ (λ i. b.body_is i ++ w.1 i) in
             record {
               message = b.message;
-              parts = (λ i. b.kind_is i ∷ (t.parts ∙ (λ j. to_be_bytes w32 (size j) ++ behind j) ∙ sym (append_assoc (to_be_bytes w32 (length (body_of x.0))) (body_of x.0) x.1)) i);
+              parts = (λ i. b.kind_is i ∷ (t.parts ∙ (λ j. to_be_bytes w32 (size j) ++ behind j) ∙ sym (append_assoc (to_be_bytes w32 (length (body_of_message x.0))) (body_of_message x.0) x.1)) i);
             }
       ] refl
     ] e
@@ -136,15 +136,15 @@ pub front_taken : (bytes : List ℕ) (m : LinkMessage) (rest : List ℕ) → Are
 unfolding front
 front_taken [] m rest octets e = absurd (not_waiting (m, rest) e)
 front_taken (kind ∷ bytes) m rest octets e =
-    elim (nat_le 1 kind && nat_le kind 3) as (λ b. (nat_le 1 kind && nat_le kind 3) ≡ b → (if b then sized_at kind (number_at w32 bytes) else failing faults.Kind) ≡ given (m, rest) → Taken_front (kind ∷ bytes) m rest) [
+    elim (nat_le 1 kind && nat_le kind 3) as (λ b. (nat_le 1 kind && nat_le kind 3) ≡ b → (if b then front_sized kind (number_at w32 bytes) else failing faults.Kind) ≡ given (m, rest) → Taken_front (kind ∷ bytes) m rest) [
       | true ↦ λ t s. let w = and_parts (nat_le 1 kind) (nat_le kind 3) t in
           sized_some kind bytes (number_at w32 bytes) (m, rest) (leb-true 1 kind w.0) (leb-true kind 3 w.1) (λ i. octets (suc i)) refl s
       | false ↦ λ _ s. absurd (not_failing faults.Kind (m, rest) s)
     ] refl e
 
 -- a message takes octets
-pub shorter : (bytes : List ℕ) (m : LinkMessage) (rest : List ℕ) → bytes ≡ spelling m ++ rest → length rest < length bytes
-shorter bytes m rest e = let len = ap length e in let sum = length-append (spelling m) rest in omega (arith, len, sum)
+pub shorter : (bytes : List ℕ) (m : LinkMessage) (rest : List ℕ) → bytes ≡ message_spelling m ++ rest → length rest < length bytes
+shorter bytes m rest e = let len = ap length e in let sum = length-append (message_spelling m) rest in omega (arith, len, sum)
 
 -- what is left after a part
 pub left_behind : (whole front rest : List ℕ) → whole ≡ front ++ rest → (length rest ≤ length whole) × (rest ≡ drop (length whole - length rest) whole)
@@ -155,21 +155,21 @@ left_behind whole front rest e =
 
 -- what is read so far of a stream
 pub record IsBegun (stream : List ℕ) (messages : List LinkMessage) (rest : List ℕ) : Type 0 where
-  pub all : AllByRecursion IsMessage messages
-  pub parts : stream ≡ flat_map spelling messages ++ rest
+  pub all : AllByRecursion IsLinkMessage messages
+  pub parts : stream ≡ flat_map message_spelling messages ++ rest
 
-pub all_both : (xs ys : List LinkMessage) → AllByRecursion IsMessage xs → AllByRecursion IsMessage ys → AllByRecursion IsMessage (xs ++ ys)
+pub all_both : (xs ys : List LinkMessage) → AllByRecursion IsLinkMessage xs → AllByRecursion IsLinkMessage ys → AllByRecursion IsLinkMessage (xs ++ ys)
 all_both [] ys f g = g
 all_both (x ∷ xs) ys f g = (f.0, all_both xs ys f.1 g)
 
-pub rest_taken : (stream : List ℕ) (messages : List LinkMessage) (rest : List ℕ) (m : LinkMessage) (after : List ℕ) → AreOctets stream → stream ≡ flat_map spelling messages ++ rest → front rest ≡ Ok (Some (m, after)) → Taken_front rest m after
-rest_taken stream messages rest m after octets parts e = front_taken rest m after (octets-right (flat_map spelling messages) rest (subst AreOctets parts octets)) e
+pub rest_taken : (stream : List ℕ) (messages : List LinkMessage) (rest : List ℕ) (m : LinkMessage) (after : List ℕ) → AreOctets stream → stream ≡ flat_map message_spelling messages ++ rest → front rest ≡ Ok (Some (m, after)) → Taken_front rest m after
+rest_taken stream messages rest m after octets parts e = front_taken rest m after (octets-right (flat_map message_spelling messages) rest (subst AreOctets parts octets)) e
 
 -- one message more
-pub one_more : (stream : List ℕ) (messages new : List LinkMessage) (rest : List ℕ) (m : LinkMessage) (after : List ℕ) → AllByRecursion IsMessage messages → stream ≡ flat_map spelling messages ++ rest → Taken_front rest m after → new ≡ messages ++ m ∷ [] → IsBegun stream new after
+pub one_more : (stream : List ℕ) (messages new : List LinkMessage) (rest : List ℕ) (m : LinkMessage) (after : List ℕ) → AllByRecursion IsLinkMessage messages → stream ≡ flat_map message_spelling messages ++ rest → Taken_front rest m after → new ≡ messages ++ m ∷ [] → IsBegun stream new after
 one_more stream messages new rest m after all parts taken behind = subst (λ (ms : List LinkMessage). IsBegun stream ms after) (sym behind) (record {
   all = all_both messages (m ∷ []) all (taken.message, tt);
-  parts = parts ∙ ap (λ (r : List ℕ). flat_map spelling messages ++ r) taken.parts
-      ∙ sym (append_assoc (flat_map spelling messages) (spelling m) after)
-      ∙ ap (λ (t : List ℕ). t ++ after) (ap (λ (t : List ℕ). flat_map spelling messages ++ t) (sym (append-nil (spelling m))) ∙ sym (flat_map-append spelling messages (m ∷ [])));
+  parts = parts ∙ ap (λ (r : List ℕ). flat_map message_spelling messages ++ r) taken.parts
+      ∙ sym (append_assoc (flat_map message_spelling messages) (message_spelling m) after)
+      ∙ ap (λ (t : List ℕ). t ++ after) (ap (λ (t : List ℕ). flat_map message_spelling messages ++ t) (sym (append-nil (message_spelling m))) ∙ sym (flat_map-append message_spelling messages (m ∷ [])));
 })

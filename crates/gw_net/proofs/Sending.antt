@@ -6,7 +6,7 @@ use Rattle.byteorder.specs.Endian.{big_bytes}
 use Rattle.gw_net.specs.declared.fault.LinkOutFault.{LinkOutFault}
 use Rattle.gw_net.specs.declared.fault.LinkOutFault.TheVariants.{Write, Memory}
 use Rattle.gw_net.specs.declared.message.LinkMessage.{LinkMessage}
-use Rattle.gw_net.specs.Messages.{kind_of, body_of, spelling}
+use Rattle.gw_net.specs.Messages.{message_kind, body_of_message, message_spelling}
 use Rattle.gw_net.specs.Writing.{IsCutShort}
 use Rattle.gw_net.specs.inner.Writing.{IsCutBehind}
 
@@ -52,5 +52,5 @@ cut_second old mid new head body (Write written) first h =
 cut_second old mid new head body Memory first h = absurd h
 
 -- a message is its head and its body
-pub headed : (m : LinkMessage) (head body : List ℕ) (size : ℕ) → body ≡ body_of m → size ≡ length body → head ≡ kind_of m ∷ big_bytes 4 size → head ++ body ≡ spelling m
-headed m head body size is sized e = (λ i. e i ++ is i) ∙ ap (λ n. kind_of m ∷ (big_bytes 4 n ++ body_of m)) (sized ∙ ap length is)
+pub headed : (m : LinkMessage) (head body : List ℕ) (size : ℕ) → body ≡ body_of_message m → size ≡ length body → head ≡ message_kind m ∷ big_bytes 4 size → head ++ body ≡ message_spelling m
+headed m head body size is sized e = (λ i. e i ++ is i) ∙ ap (λ n. message_kind m ∷ (big_bytes 4 n ++ body_of_message m)) (sized ∙ ap length is)

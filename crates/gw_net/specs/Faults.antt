@@ -4,9 +4,9 @@ use Rattle.gw_net.specs.declared.fault.LinkFault.{LinkFault}
 use Rattle.gw_net.specs.declared.fault.LinkFault.TheVariants.{TooLong, Kind, Body, Memory, Failed}
 
 -- the number of a fault
-abbrev pub fault_number : LinkFault → ℕ
-fault_number TooLong = 1
-fault_number Kind = 2
-fault_number Body = 3
-fault_number Memory = 4
-fault_number Failed = 5
+abbrev pub link_fault_number : LinkFault → ℕ
+link_fault_number TooLong = 1
+link_fault_number Kind = 2
+link_fault_number Body = 3
+link_fault_number Memory = 4
+link_fault_number Failed = 5

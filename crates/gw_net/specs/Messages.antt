@@ -3,36 +3,37 @@ use Rattle.std.specs.Prelude.{ℕ, ◌≤◌, ◌<◌, ◌^◌, ◌==◌, if◌t
 use Rattle.byteorder.specs.Endian.{big_bytes}
 use Rattle.rep_op.specs.declared.fault.OpsFault.{OpsFault}
 use Rattle.rep_ops.specs.Deltas.{IsDelta}
-use Rattle.rep_ops.specs.Spelling.{spelling as delta_spelling, IsWithinLimit as IsDeltaWithinLimit}
+use Rattle.rep_ops.specs.Spelling.{delta_spelling, IsDeltaWithinLimit}
 use Rattle.rep_op.specs.Values.{AreValues}
-use Rattle.rep_ops.specs.Reading.{reading as delta_reading}
-use Rattle.rep_digest.specs.Reading.{reading as digest_reading}
-use Rattle.rep_digest.specs.Spelling.{spelling as digest_spelling, IsWithinLimit as IsDigestWithinLimit}
+use Rattle.rep_ops.specs.Reading.{delta_reading}
+use Rattle.rep_digest.specs.Reading.{digest_reading}
+use Rattle.rep_digest.specs.Spelling.{digest_spelling, IsDigestWithinLimit}
 use Rattle.rep_digest.specs.WellMade.{IsDigest}
 use Rattle.gw_net.specs.declared.message.LinkMessage.{LinkMessage}
 use Rattle.gw_net.specs.declared.message.LinkMessage.TheVariants.{Hello, Digest as OfDigest, Delta as OfDelta}
 
 -- 1 a hello, 2 a digest, 3 a delta
-abbrev pub kind_of : LinkMessage → ℕ
-kind_of (Hello gateway) = 1
-kind_of (OfDigest d) = 2
-kind_of (OfDelta d) = 3
+abbrev pub message_kind : LinkMessage → ℕ
+message_kind (Hello gateway) = 1
+message_kind (OfDigest d) = 2
+message_kind (OfDelta d) = 3
 
 -- the body of a message: the gateway's number, or the spelling of the digest or the delta
-abbrev pub body_of : LinkMessage → List ℕ
-body_of (Hello gateway) = gateway ∷ []
-body_of (OfDigest d) = digest_spelling d
-body_of (OfDelta d) = delta_spelling d
+abbrev pub body_of_message : LinkMessage → List ℕ
+body_of_message (Hello gateway) = gateway ∷ []
+body_of_message (OfDigest d) = digest_spelling d
+body_of_message (OfDelta d) = delta_spelling d
 
 -- a message: its kind, the length of its body, and the body
-abbrev pub spelling : LinkMessage → List ℕ
-spelling m = kind_of m ∷ (big_bytes 4 (length (body_of m)) ++ body_of m)
+abbrev pub message_spelling : LinkMessage → List ℕ
+message_spelling m =
+    message_kind m ∷ (big_bytes 4 (length (body_of_message m)) ++ body_of_message m)
 
 -- a hello of a gateway 1 to 255; or a digest or a delta, within its limit
-abbrev pub IsMessage : LinkMessage → Type 0
-IsMessage (Hello gateway) = (1 ≤ gateway) × (gateway < 2 ^ 8)
-IsMessage (OfDigest d) = IsDigest d × IsDigestWithinLimit d
-IsMessage (OfDelta d) = IsDelta d × AreValues d × IsDeltaWithinLimit d
+abbrev pub IsLinkMessage : LinkMessage → Type 0
+IsLinkMessage (Hello gateway) = (1 ≤ gateway) × (gateway < 2 ^ 8)
+IsLinkMessage (OfDigest d) = IsDigest d × IsDigestWithinLimit d
+IsLinkMessage (OfDelta d) = IsDelta d × AreValues d × IsDeltaWithinLimit d
 
 -- a hello's gateway is not 0
 abbrev pub IsNumbered : LinkMessage → Type 0

@@ -11,8 +11,8 @@ pub record Pending : Type 0 where
   pub failed : Bool
 
 -- a link from which nothing has come yet
-abbrev pub nothing : Pending
-nothing = record { waiting = []; failed = false }
+abbrev pub nothing_yet : Pending
+nothing_yet = record { waiting = []; failed = false }
 
 -- the octets that came, or none
 abbrev pub octets_of : Option (Vec ℕ) → List ℕ
@@ -25,7 +25,7 @@ has_fault None = false
 has_fault (Some fault) = true
 
 -- a piece after what waits gave the messages and the fault, and the rest waits
-pub record IsFed (before : Pending) (piece : List ℕ) (messages : List LinkMessage)
+pub record IsPieceFed (before : Pending) (piece : List ℕ) (messages : List LinkMessage)
     (fault : Option LinkFault) (after : Pending) : Type 0 where
   pub unfailed : before.failed ≡ false
   pub read : IsRead (before.waiting ++ piece) messages fault after.waiting

@@ -1,7 +1,7 @@
 //! Why a link is given up, and why a message was not written.
 
 ghost use Rattle.std.specs.Prelude.{◌≡◌};
-ghost use Rattle.gw_net.specs.Faults.{fault_number};
+ghost use Rattle.gw_net.specs.Faults.{link_fault_number};
 ghost use Rattle.gw_net.specs.declared.fault.LinkFault.TheVariants.{Memory};
 ghost use Rattle.gw_net.specs.declared.fault.LinkOutFault.TheVariants.{Memory as OutMemory};
 
@@ -41,7 +41,7 @@ impl fmt::Display for LinkFault {
 impl LinkFault {
     /// Its number, from 1 to 5.
     pub fn number(&self) -> u8
-        ensures { result ≡ fault_number self.now }
+        ensures { result ≡ link_fault_number self.now }
     {
         match self {
             LinkFault::TooLong => 1,

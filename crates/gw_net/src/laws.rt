@@ -5,11 +5,11 @@ ghost use Rattle.rep_op.specs.declared.fault.OpsFault.TheVariants as faults;
 ghost use Rattle.rep_ops.specs.Spelling.{max_octets};
 ghost use Rattle.rep_digest.specs.Digests.{Digested};
 ghost use Rattle.rep_digest.specs.WellMade.{IsDigest};
-ghost use Rattle.rep_digest.specs.Spelling.{spelling as digest_spelling, IsWithinLimit};
-ghost use Rattle.rep_digest.specs.Reading.{reading as digest_reading};
+ghost use Rattle.rep_digest.specs.Spelling.{digest_spelling, IsDigestWithinLimit};
+ghost use Rattle.rep_digest.specs.Reading.{digest_reading};
 ghost use Rattle.gw_net.specs.declared.fault.LinkFault.{LinkFault};
 ghost use Rattle.gw_net.specs.declared.message.LinkMessage.{LinkMessage};
-ghost use Rattle.gw_net.specs.Messages.{spelling, IsMessage};
+ghost use Rattle.gw_net.specs.Messages.{message_spelling, IsLinkMessage};
 ghost use Rattle.gw_net.specs.Streams.{IsRead};
 
 /// A stream says one thing, however it is cut into pieces.
@@ -29,11 +29,11 @@ pub fn one_stream()
 /// No spelling of a digest begins another.
 pub fn no_digest_begins_another()
     // If two spellings begin the same octets, the digests are the same, and so is what comes after.
-    ensures free { (d e : Digested) (x y : List ℕ) → IsDigest d → IsWithinLimit d
-        → IsDigest e → IsWithinLimit e → digest_spelling d ++ x ≡ digest_spelling e ++ y
+    ensures free { (d e : Digested) (x y : List ℕ) → IsDigest d → IsDigestWithinLimit d
+        → IsDigest e → IsDigestWithinLimit e → digest_spelling d ++ x ≡ digest_spelling e ++ y
         → (d ≡ e) × (x ≡ y) }
     // A spelling that is cut off anywhere is refused as Truncated.
-    ensures cut { (d : Digested) (front rest : List ℕ) → IsDigest d → IsWithinLimit d
+    ensures cut { (d : Digested) (front rest : List ℕ) → IsDigest d → IsDigestWithinLimit d
         → digest_spelling d ≡ front ++ rest → rest ≢ []
         → digest_reading front ≡ Err faults.Truncated }
     // A spelling with octets after it is refused as Trailing.
@@ -45,9 +45,9 @@ pub fn no_digest_begins_another()
 /// No link message begins another.
 pub fn no_message_begins_another()
     // If two messages begin the same octets they are the same, and so is what comes after.
-    ensures free { (m n : LinkMessage) (x y : List ℕ) → IsMessage m → IsMessage n
-        → spelling m ++ x ≡ spelling n ++ y → (m ≡ n) × (x ≡ y) }
+    ensures free { (m n : LinkMessage) (x y : List ℕ) → IsLinkMessage m → IsLinkMessage n
+        → message_spelling m ++ x ≡ message_spelling n ++ y → (m ≡ n) × (x ≡ y) }
     // A stream that ends before its message does says nothing yet, and is no fault.
-    ensures cut { (m : LinkMessage) (front rest : List ℕ) → IsMessage m
-        → spelling m ≡ front ++ rest → rest ≢ [] → IsRead front [] None front }
+    ensures cut { (m : LinkMessage) (front rest : List ℕ) → IsLinkMessage m
+        → message_spelling m ≡ front ++ rest → rest ≢ [] → IsRead front [] None front }
 {}

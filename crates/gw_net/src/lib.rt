@@ -5,7 +5,7 @@
 //!
 //! - `message`: what is said (`LinkMessage`).
 //! - `fault`: why a link is given up.
-//! - `front`: the message in front of a stream.
+//! - `framing`: the message in front of a stream.
 //! - `stream`: the end of a link at which pieces come in (`LinkIn`).
 //! - `outgoing`: the end at which messages go out (`link_out`).
 //! - `laws`: that a stream says one thing, however it is cut, and that no message or digest begins
@@ -16,7 +16,7 @@
 #![tactic(auto)]
 
 mod fault;
-mod front;
+mod framing;
 mod laws;
 mod message;
 mod outgoing;

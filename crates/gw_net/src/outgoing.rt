@@ -4,7 +4,7 @@ ghost use Rattle.std.specs.Prelude.{◌≡◌, ◌+◌, ◌<◌, ◌≤◌, ◌^
 ghost use Rattle.std.specs.Io.KnownBytes.{Appends, Keeps};
 ghost use Rattle.byteorder.specs.Endian.{big_bytes};
 ghost use Rattle.rep_ops.specs.Spelling.{max_octets};
-ghost use Rattle.gw_net.specs.Messages.{kind_of, body_of, spelling, IsNumbered};
+ghost use Rattle.gw_net.specs.Messages.{message_kind, body_of_message, message_spelling, IsNumbered};
 ghost use Rattle.gw_net.specs.Writing.{IsCutShort};
 ghost use Rattle.gw_net.specs.inner.Writing.{IsCutBehind};
 
@@ -26,9 +26,9 @@ pub fn link_out<W: Write>(
 ) -> Result<(), LinkOutFault>
     requires { IsNumbered message.now }
     ensures ok { OnOk result (Appends (W.contents writer.old) (W.contents writer.new)
-        (spelling message.now)) }
+        (message_spelling message.now)) }
     ensures fault { IfErr result (IsCutShort (W.contents writer.old) (W.contents writer.new)
-        (spelling message.now)) }
+        (message_spelling message.now)) }
 {
     is_short(message);
     let body = body(alloc, message)?;
@@ -41,7 +41,7 @@ pub fn link_out<W: Write>(
 
 /// What the types of a message promise of its body.
 fn is_short(message: &LinkMessage)
-    ensures { length (body_of message.now) ≤ max_octets }
+    ensures { length (body_of_message message.now) ≤ max_octets }
 {
     match message {
         LinkMessage::Hello(_) => {}
@@ -56,7 +56,7 @@ fn is_short(message: &LinkMessage)
 
 /// The octets of a body.
 fn body(alloc: Global, message: &LinkMessage) -> Result<Vec<u8>, NoMemory>
-    ensures { IfOk result (λ body. body.items ≡ body_of message.now) }
+    ensures { IfOk result (λ body. body.items ≡ body_of_message message.now) }
 {
     let mut body = Vec::new(alloc);
     match message {
@@ -70,7 +70,7 @@ fn body(alloc: Global, message: &LinkMessage) -> Result<Vec<u8>, NoMemory>
 /// Kind and length.
 fn head(alloc: Global, message: &LinkMessage, size: usize) -> Result<Vec<u8>, NoMemory>
     requires { size < 2 ^ 32 }
-    ensures { IfOk result (λ head. head.items ≡ kind_of message.now ∷ big_bytes 4 size) }
+    ensures { IfOk result (λ head. head.items ≡ message_kind message.now ∷ big_bytes 4 size) }
 {
     let kind = match message {
         LinkMessage::Hello(_) => 1,

@@ -4,7 +4,7 @@ ghost use Rattle.std.specs.Prelude.{◌≡◌, ◌⊎◌, ◌↔◌, ◌-◌, �
 ghost use Rattle.gw_net.specs.Streams.{IsRead};
 
 use super::fault::LinkFault;
-use super::front::front;
+use super::framing::front;
 use super::message::LinkMessage;
 use octets::NoMemory;
 use std::alloc::Global;
@@ -37,11 +37,11 @@ impl Model for LinkIn {
 }
 
 impl LinkIn {
-    ghost use Rattle.gw_net.specs.Pieces.{nothing, IsFed};
+    ghost use Rattle.gw_net.specs.Pieces.{nothing_yet, IsPieceFed};
 
     /// The begin of a link.
     pub fn new() -> LinkIn
-        ensures { result ≡ nothing }
+        ensures { result ≡ nothing_yet }
     {
         LinkIn {
             waiting: None,
@@ -54,7 +54,7 @@ impl LinkIn {
     ///
     /// `Failed` after a fault; `Memory`, and the link is as it was.
     pub fn feed(&mut self, alloc: Global, piece: &[u8]) -> Result<Fed, LinkFault>
-        ensures ok { IfOk result (λ fed. IsFed self.old piece.now fed.messages.items
+        ensures ok { IfOk result (λ fed. IsPieceFed self.old piece.now fed.messages.items
             fed.fault self.new) }
         ensures unchanged { OnErr result (self.new ≡ self.old) }
         ensures failed { result ≡ Err LinkFault.Failed ↔ (self.old.failed ≡ true) }

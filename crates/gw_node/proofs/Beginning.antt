@@ -11,7 +11,7 @@ use Rattle.jr_journal.specs.Records.{records}
 use Rattle.jr_journal.specs.Faults.{fault_of}
 use Rattle.gw_node.proofs.Between.{within-keep}
 use Rattle.gw_node.specs.Opening.{FitInTurn}
-use Rattle.gw_node.specs.Taking.{StandsFor}
+use Rattle.gw_node.specs.Taking.{RecoversTo}
 
 -- where each fits to what is kept of those before it, no front part of them passes a limit
 fit_roomy : (S : List Op) (ds : List (List Op)) → first_passed S ≡ None → FitInTurn S ds → (k : ℕ) → first_passed (S ++ all_of (take k ds)) ≡ None
@@ -22,7 +22,7 @@ fit_roomy S (d ∷ ds) room fits (suc k) =
     ap first_passed (sym (append_assoc S d (all_of (take k ds))))
     ∙ fit_roomy (S ++ d) ds (sym (first_passed-more S fits.0.0 d fits.0.1.counts) ∙ fits.0.2.within) fits.1 k
 
-pub begins : (gateway : ℕ) (i : Image) → fault_of gateway i ≡ None → FitInTurn [] (records gateway i) → IsConsistent (all_of (records gateway i)) → StandsFor gateway (all_of (records gateway i)) [] i
+pub begins : (gateway : ℕ) (i : Image) → fault_of gateway i ≡ None → FitInTurn [] (records gateway i) → IsConsistent (all_of (records gateway i)) → RecoversTo gateway (all_of (records gateway i)) [] i
 begins gateway i sound fits proper =
     let J : List Op = all_of (records gateway i) in record {
       sound = sound;

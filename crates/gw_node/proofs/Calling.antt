@@ -2,8 +2,8 @@
 use Rattle.std.proofs.Common.{◌≡◌, ◌≢◌, ℕ, ◌==◌, false, List, [], ◌∷◌, ◌++◌, length, Some, Result, Ok, Err, ◌⊎◌, refl, ap, inl, inr}
 use Rattle.rep_op.specs.declared.op.Op.{Op}
 use Rattle.rep_ops.specs.Deltas.{IsDelta}
-use Rattle.rep_ops.specs.Making.{AreApart, IsDeltaOf}
-use Rattle.rep_ops.specs.Spelling.{IsWithinLimit}
+use Rattle.rep_ops.specs.Making.{HaveOwnNames, IsDeltaOf}
+use Rattle.rep_ops.specs.Spelling.{IsDeltaWithinLimit}
 use Rattle.rep_model.specs.Keep.{IsKeptOf}
 use Rattle.rep_model.specs.Taking.{Fits}
 use Rattle.sn_frame.specs.declared.frame.Frame.{Frame}
@@ -22,7 +22,7 @@ use Rattle.gw_event.specs.Occasions.{Datagram, Clock}
 use Rattle.gw_node.specs.Parts.{State, is_halted, IsUnchanged}
 use Rattle.gw_answer.specs.Answers.{only_sends}
 use Rattle.gw_node.specs.Writing.{IsWritten}
-use Rattle.gw_node.specs.inner.Writing.{WrittenAs, WrittenIfAny, refusal_of}
+use Rattle.gw_node.specs.inner.Writing.{WrittenAs, WrittenIfAny, refusal_of_journal}
 use Rattle.gw_event.specs.Excuses.{excuses}
 use Rattle.gw_node.specs.Plans.{IsMisfit, Makes}
 use Rattle.gw_node.specs.Calls.{OwnCall, TakeCall, IsNoted}
@@ -41,7 +41,7 @@ module _ {D : Type 0} {G : Ghosts D} where
 
   -- the journal refused a delta that fits
   pub left : (old new : State G) (delta : List Op) (fault : JournalFault) → is_halted old ≡ false → new.config ≡ old.config → new.kept ≡ old.kept → new.local ≡ old.local → new.records ≡ old.records → IsDelta delta → Fits old.kept delta
-      → WrittenIfAny old.journal delta (Err fault) new.journal → TakeCall old delta (Err (refusal_of fault (only_sends []))) new
+      → WrittenIfAny old.journal delta (Err fault) new.journal → TakeCall old delta (Err (refusal_of_journal fault (only_sends []))) new
   left old new [] fault runs config kept local records is fits h = absurd h
   left old new (op ∷ ops) faults.Disk runs config kept local records is fits h =
       (runs, refl, record { some = λ e. absurd cc; config = config; records = records; kept = kept; local = local; is_delta = is; fits = fits; failed = h })
@@ -83,8 +83,8 @@ module _ {D : Type 0} {G : Ghosts D} where
   not_ready old new plan excuse refusal (inr (delta, d, h)) u = no_room old new plan excuse delta refusal d h u
 
   -- the journal refused the delta of a plan
-  pub given_up : (old new : State G) (plan : Plan) (excuse : Out) (delta : List Op) (fault : JournalFault) → plan.ops ≢ [] → excuse ≡ only_sends excuse.sends → AreApart plan.ops → IsDeltaOf plan.ops delta → IsWithinLimit delta → Fits old.kept delta
-      → new.config ≡ old.config → new.kept ≡ old.kept → new.local ≡ old.local → new.records ≡ old.records → WrittenAs old.journal delta (Err fault) new.journal → CarriedOut old plan excuse (Err (refusal_of fault excuse)) new
+  pub given_up : (old new : State G) (plan : Plan) (excuse : Out) (delta : List Op) (fault : JournalFault) → plan.ops ≢ [] → excuse ≡ only_sends excuse.sends → HaveOwnNames plan.ops → IsDeltaOf plan.ops delta → IsDeltaWithinLimit delta → Fits old.kept delta
+      → new.config ≡ old.config → new.kept ≡ old.kept → new.local ≡ old.local → new.records ≡ old.records → WrittenAs old.journal delta (Err fault) new.journal → CarriedOut old plan excuse (Err (refusal_of_journal fault excuse)) new
   given_up old new plan excuse delta faults.Disk some answer apart d limit fits config kept local records h =
       (refl, record { some = some; config = config; records = records; kept = kept; local = local; apart = apart; delta = delta; is_delta = d; limit = limit; fits = fits; failed = h; answer = answer })
   given_up old new plan excuse delta faults.Halted some answer apart d limit fits config kept local records h = (h.0, record { config = config; kept = kept; local = local; journal = h.1; records = records })

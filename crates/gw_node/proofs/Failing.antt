@@ -5,7 +5,7 @@ use Rattle.rep_digest.specs.Digests.{Digested}
 use Rattle.jr_disk.specs.declared.disk.Disk.{Ghosts}
 use Rattle.jr_journal.specs.declared.fault.JournalFault.TheVariants as journal_faults
 use Rattle.jr_journal.specs.declared.journal.Journal.{Journal}
-use Rattle.jr_journal.specs.Parts.{disk_of}
+use Rattle.jr_journal.specs.Parts.{disk_under}
 use Rattle.gw_answer.specs.declared.out.Out.{Out}
 use Rattle.gw_answer.specs.declared.refusal.Refusal.{Refusal}
 use Rattle.gw_answer.specs.declared.refusal.Refusal.TheVariants as refusals
@@ -20,10 +20,10 @@ use Rattle.gw_node.specs.Failures.{failed}
 
 -- a disk on which this many more calls failed, at least
 abbrev Fails : {D : Type 0} {G : Ghosts D} → Journal D G → ℕ → Journal D G → Type 0
-Fails {G = G} old n new = G.failures (disk_of old) + n ≤ G.failures (disk_of new)
+Fails {G = G} old n new = G.failures (disk_under old) + n ≤ G.failures (disk_under new)
 
 untouched : {D : Type 0} {G : Ghosts D} (old new : Journal D G) → IsUntouched old new → Fails old 0 new
-untouched {G = G} old new same = let e : G.failures (disk_of new) ≡ G.failures (disk_of old) = ap G.failures same.disk in omega (arith, e)
+untouched {G = G} old new same = let e : G.failures (disk_under new) ≡ G.failures (disk_under old) = ap G.failures same.disk in omega (arith, e)
 
 makes : {D : Type 0} {G : Ghosts D} (ops : List Op) (made : Option (List Op)) (old new : State G) → Makes ops made old new → Fails old.journal 0 new.journal
 makes [] None old new h = untouched old.journal new.journal h.1
@@ -122,7 +122,7 @@ reopens old (Err (refusals.Journal fault)) new h = omega (arith, h.1.failures)
 reopens old (Err refusals.Memory) new h = omega (arith, h.1.failures)
 
 pub failures_grow : {D : Type 0} {G : Ghosts D} (old : State G) (step : Step) (answer : Result Out Refusal) (new : State G)
-    → StepCall old step answer new → G.failures (disk_of old.journal) + failed answer ≤ G.failures (disk_of new.journal)
+    → StepCall old step answer new → G.failures (disk_under old.journal) + failed answer ≤ G.failures (disk_under new.journal)
 failures_grow old (steps.Frame from bytes now) answer new h = own old (Datagram from bytes) now answer new h
 failures_grow old (steps.Tick now) answer new h = own old Clock now answer new h
 failures_grow old (steps.Take delta) answer new h = takes old delta answer new h

@@ -7,7 +7,7 @@ use Rattle.rep_ops.specs.Making.{IsDeltaOf}
 use Rattle.rep_ops.specs.Spelling.{max_octets}
 use Rattle.rep_ops.specs.Splitting.{all_of}
 use Rattle.rep_digest.specs.Digests.{Digested, digest}
-use Rattle.rep_digest.specs.Spelling.{spelling, IsWithinLimit as IsDigestWithinLimit}
+use Rattle.rep_digest.specs.Spelling.{digest_spelling, IsDigestWithinLimit}
 use Rattle.rep_digest.proofs.Counted.{same_digest}
 use Rattle.rep_answer.proofs.Completing.{same_answer}
 use Rattle.rep_model.specs.Views.{view}
@@ -18,15 +18,15 @@ use Rattle.sn_plan.specs.declared.plan.Plan.{Plan}
 use Rattle.sn_local.specs.Seen.{seen_of}
 use Rattle.sn_local.specs.Locals.{after_all, owned}
 use Rattle.jr_disk.specs.declared.disk.Disk.{Ghosts}
-use Rattle.jr_disk.specs.declared.disk.Plan.{Plan as Failure}
+use Rattle.jr_disk.specs.declared.disk.Failure.{Failure}
 use Rattle.jr_journal.specs.declared.fault.JournalFault.TheVariants as journal_faults
 use Rattle.jr_disk.specs.Disk.{Slots, Image, at, image}
 use Rattle.jr_journal.specs.Faults.{is_fresh}
 use Rattle.jr_journal.specs.Crashes.{recovered}
-use Rattle.jr_journal.specs.Arranged.{after_append, is_quiet}
-use Rattle.jr_journal.specs.Journals.{other, emptied, last_generation}
+use Rattle.jr_journal.specs.Arranged.{after_append, misses_failure}
+use Rattle.jr_journal.specs.Journals.{other_slot, emptied, last_generation}
 use Rattle.jr_journal.specs.Opening.{slot_read}
-use Rattle.jr_journal.specs.Parts.{disk_of, gateway_of, slot_of, generation_of}
+use Rattle.jr_journal.specs.Parts.{disk_under, gateway_of, slot_of, generation_of}
 use Rattle.jr_journal.specs.Records.{base_bytes, slot_content, generation_in, records}
 use Rattle.gw_answer.specs.declared.out.Out.{Out}
 use Rattle.gw_answer.specs.declared.refusal.Refusal.{Refusal}
@@ -42,9 +42,9 @@ use Rattle.gw_event.specs.Occasions.{Occasion, Datagram, Clock, IsPlanOf}
 use Rattle.gw_node.specs.Opening.{ReopenCall}
 use Rattle.gw_node.specs.Parts.{State, is_halted, IsUnchanged}
 use Rattle.gw_node.specs.Plans.{IsPlanFor, Makes}
-use Rattle.gw_node.specs.Standing.{Lasts, Stands, fated, LeadsTo, OwnAgrees, Agrees, IsClear, CanBeSaid, EventOn}
-use Rattle.gw_node.specs.Taking.{on_disk, StandsFor}
-use Rattle.gw_node.specs.Writing.{IsRewritten, IsNotRewritten, IsNumbered}
+use Rattle.gw_node.specs.Standing.{Lasts, Represents, with_failure, LeadsTo, OwnAgrees, CallAgrees, IsClear, CanBeSaid, EventOn}
+use Rattle.gw_node.specs.Taking.{on_disk, RecoversTo}
+use Rattle.gw_node.specs.Writing.{IsRewritten, IsNotRewritten, HasReadGeneration}
 use Rattle.gw_node.proofs.Keeping.{keeps_more}
 use Rattle.gw_node.proofs.Held.{seen_same, takable, conflict_with_taken, full_for_taken}
 use Rattle.gw_node.proofs.Splits.{held-taken}
@@ -55,7 +55,7 @@ use Rattle.gw_node.proofs.Taken.{StandFor, all_left, records_stand, as_taken, re
 abbrev OrWant : Result Out Refusal → (Gateway → Gateway → List (List Op) → Type 0) → Gateway → Gateway → List (List Op) → Type 0
 OrWant answer Step before next made = Step before next made ⊎ ((answer ≡ Err refusals.Memory) × NothingHappens before next made)
 
-module _ {D : Type 0} {G : Ghosts D} (g : Gateway) (old : State G) (s : Stands g old) where
+module _ {D : Type 0} {G : Ghosts D} (g : Gateway) (old : State G) (s : Represents g old) where
   -- the plan by what is kept is the plan by what was taken
   pub plan_taken : (occasion : Occasion) (now : ℕ) (plan : Option Plan) → IsPlanFor old occasion now plan → IsPlan g occasion now plan
   plan_taken occasion now plan h =
@@ -116,8 +116,8 @@ module _ {D : Type 0} {G : Ghosts D} (g : Gateway) (old : State G) (s : Stands g
         is_plan,
         (
           done.answer,
-          subst (λ (os : List Op). IsMade os (fated None g) plan out.made (wrote delta (after_all g.local plan.local) g) (delta ∷ [])) (sym ops)
-              (subst (λ (m : Option (List Op)). IsMade (op ∷ rest) (fated None g) plan m (wrote delta (after_all g.local plan.local) g) (delta ∷ [])) (sym made)
+          subst (λ (os : List Op). IsMade os (with_failure None g) plan out.made (wrote delta (after_all g.local plan.local) g) (delta ∷ [])) (sym ops)
+              (subst (λ (m : Option (List Op)). IsMade (op ∷ rest) (with_failure None g) plan m (wrote delta (after_all g.local plan.local) g) (delta ∷ [])) (sym made)
               (is_delta, writable, takable g.taken old.kept delta s.keeps fits, refl, refl, refl)),
           done.apart,
         ),
@@ -235,7 +235,7 @@ module _ {D : Type 0} {G : Ghosts D} (g : Gateway) (old : State G) (s : Stands g
       (inl ((subst IsDigestWithinLimit digest_taken within, is_out ∙ (λ i. record { sends = []; made = None; answer = []; digest = Some (digest_taken i); view = None }), refl), refl))
   digest_leads new (Err refusals.Full) (long, u) =
       same_leads g old s (OrWant (Err refusals.Full) (λ before next made. DigestStep before (Err refusals.Full) next × (made ≡ []))) (Unit {0}) new u
-      (inl ((subst (λ (d : Digested). max_octets < length (spelling d)) digest_taken long, refl), refl))
+      (inl ((subst (λ (d : Digested). max_octets < length (digest_spelling d)) digest_taken long, refl), refl))
   digest_leads new (Err refusals.Memory) u = wants (λ before next made. DigestStep before (Err refusals.Memory) next × (made ≡ [])) (Unit {0}) new u
   digest_leads new (Err refusals.Halted) h = absurd h
   digest_leads new (Err (refusals.Frame fault)) h = absurd h
@@ -264,10 +264,10 @@ module _ {D : Type 0} {G : Ghosts D} (g : Gateway) (old : State G) (s : Stands g
   Compacts answer new = LeadsTo (OrWant answer (λ before next made. CompactStep before answer next × (made ≡ []))) (Unit {0}) g old new
 
   -- the generation that the journal goes by is the one that its slot tells
-  numbered : G.honest → IsNumbered old.journal → generation_of old.journal ≡ generation g.config.gateway g.drive
+  numbered : G.honest → HasReadGeneration old.journal → generation_of old.journal ≡ generation g.config.gateway g.drive
   numbered honest number = number honest ∙ (λ i. generation_in (slot_content (s.numbered i) (at (s.slots honest i) (s.slot i)).synced))
 
-  same_base : (base : List (List Op)) → G.honest → IsNumbered old.journal
+  same_base : (base : List (List Op)) → G.honest → HasReadGeneration old.journal
       → base_bytes (gateway_of old.journal) (generation_of old.journal + 1) base ≡ base_bytes g.config.gateway (generation g.config.gateway g.drive + 1) base
   same_base base honest number = λ i. base_bytes (s.numbered i) (numbered honest number i + 1) base
 
@@ -280,20 +280,20 @@ module _ {D : Type 0} {G : Ghosts D} (g : Gateway) (old : State G) (s : Stands g
   abbrev torn_anew : Failure → List (List Op) → Gateway
   torn_anew failure base = record g { drive = torn_base failure g.config.gateway base (record g.drive { plan = Some failure }) }
 
-  anew_stands : (new : State G) (base : List (List Op)) → G.honest → new.config ≡ old.config → new.kept ≡ old.kept → new.local ≡ old.local → IsRewritten old.journal base new.journal → Stands (anew base) new
+  anew_stands : (new : State G) (base : List (List Op)) → G.honest → new.config ≡ old.config → new.kept ≡ old.kept → new.local ≡ old.local → IsRewritten old.journal base new.journal → Represents (anew base) new
   anew_stands new base honest config kept local w = record {
     configured = config ∙ s.configured;
     numbered = w.gateway ∙ s.numbered;
     bound = local ∙ s.bound;
     keeps = keeps_still g old s new kept;
-    slot = w.slot ∙ ap other s.slot;
+    slot = w.slot ∙ ap other_slot s.slot;
     halted = w.goes_on ∙ sym (goes g old s w.runs);
-    slots = λ h. w.exact h ∙ (λ i. after_append None (emptied (s.slots h i) (other (s.slot i))) (other (s.slot i)) (same_base base h w.number i));
+    slots = λ h. w.exact h ∙ (λ i. after_append None (emptied (s.slots h i) (other_slot (s.slot i))) (other_slot (s.slot i)) (same_base base h w.number i));
   }
 
   torn_anew_stands : (new : State G) (base : List (List Op)) (failure : Failure) → new.config ≡ old.config → new.kept ≡ old.kept → new.local ≡ old.local → IsNotRewritten old.journal base new.journal
-      → (G.honest → G.slots (disk_of new.journal) ≡ after_append (Some failure) (emptied (G.slots (disk_of old.journal)) (other (slot_of old.journal))) (other (slot_of old.journal)) (base_bytes (gateway_of old.journal) (generation_of old.journal + 1) base))
-      → Stands (torn_anew failure base) new
+      → (G.honest → G.slots (disk_under new.journal) ≡ after_append (Some failure) (emptied (G.slots (disk_under old.journal)) (other_slot (slot_of old.journal))) (other_slot (slot_of old.journal)) (base_bytes (gateway_of old.journal) (generation_of old.journal + 1) base))
+      → Represents (torn_anew failure base) new
   torn_anew_stands new base failure config kept local w slots = record {
     configured = config ∙ s.configured;
     numbered = w.gateway ∙ s.numbered;
@@ -301,7 +301,7 @@ module _ {D : Type 0} {G : Ghosts D} (g : Gateway) (old : State G) (s : Stands g
     keeps = keeps_still g old s new kept;
     slot = w.slot ∙ s.slot;
     halted = w.halts;
-    slots = λ h. slots h ∙ (λ i. after_append (Some failure) (emptied (s.slots h i) (other (s.slot i))) (other (s.slot i)) (same_base base h w.number i));
+    slots = λ h. slots h ∙ (λ i. after_append (Some failure) (emptied (s.slots h i) (other_slot (s.slot i))) (other_slot (s.slot i)) (same_base base h w.number i));
   }
 
   pub compact_leads : (new : State G) (answer : Result Out Refusal) → IsClear g old answer new → CompactCall old answer new → Compacts answer new
@@ -325,7 +325,7 @@ module _ {D : Type 0} {G : Ghosts D} (g : Gateway) (old : State G) (s : Stands g
         stands = stands;
         foreseen = λ honest fed f. let none = unmet _ g.drive.plan _ _ _ _ _ f.plan (w.known honest fed) in (none.0, record { plan = none.1; quiet = refl });
         lasts = λ agrees honest l.
-            from_taken (anew h.base) new stands honest (l.none (goes g old s runs)) (λ going. anew_synced g.drive.slots (other g.drive.slot) _ (l.synced going))
+            from_taken (anew h.base) new stands honest (l.none (goes g old s runs)) (λ going. anew_synced g.drive.slots (other_slot g.drive.slot) _ (l.synced going))
             (rewritten old new h.base h.held h.kept w g.taken [] (to_taken g old s (goes g old s runs) honest l));
       }
   compact_leads new (Err refusals.Halted) known (halted, u) = still (Err refusals.Halted) new u (halts g old s halted, refl)
@@ -369,9 +369,9 @@ module _ {D : Type 0} {G : Ghosts D} (g : Gateway) (old : State G) (s : Stands g
 
   -- what an opening of the disk would read now stands for the set, with what was refused or without
   pub read_now : Lasts g
-      → StandsFor g.config.gateway (with_refused (more_records g.config.gateway g.drive (image g.drive.slots)) g.taken g.refused) [] (image g.drive.slots)
+      → RecoversTo g.config.gateway (with_refused (more_records g.config.gateway g.drive (image g.drive.slots)) g.taken g.refused) [] (image g.drive.slots)
   read_now l =
-      subst (λ (i : Image). StandsFor g.config.gateway (with_refused (more_records g.config.gateway g.drive i) g.taken g.refused) [] i) (all_left g.drive.slots)
+      subst (λ (i : Image). RecoversTo g.config.gateway (with_refused (more_records g.config.gateway g.drive i) g.taken g.refused) [] i) (all_left g.drive.slots)
       (l.images (length g.drive.slots.first.unsynced) (length g.drive.slots.second.unsynced))
 
   begun_now : Lasts g → is_fresh (image g.drive.slots) ≡ false
@@ -386,7 +386,7 @@ module _ {D : Type 0} {G : Ghosts D} (g : Gateway) (old : State G) (s : Stands g
       let same : on_disk old ≡ records g.config.gateway i = λ j. records (s.numbered j) (image (s.slots honest j)) in
       let keeps : Keeps (all_of (records g.config.gateway i)) new.kept = subst (λ (ds : List (List Op)). Keeps (all_of ds) new.kept) same (w.keeps honest) in
       let counts = same_trans keeps.counts (as_taken next.taken (all_of (records g.config.gateway i)) there.whole) in
-      let stands : Stands next new = record {
+      let stands : Represents next new = record {
         configured = w.config ∙ s.configured;
         numbered = w.gateway ∙ s.numbered;
         bound = w.local;
@@ -405,8 +405,8 @@ module _ {D : Type 0} {G : Ghosts D} (g : Gateway) (old : State G) (s : Stands g
           refl,
           record {
             plan = w.quiet h fed
-                (subst (λ (o : Option (Option Failure)). IsTrue (is_quiet o (is_fresh (image (G.slots (disk_of old.journal)))))) (sym f.plan)
-                (subst (λ (b : Bool). IsTrue (is_quiet (Some g.drive.plan) b)) (sym (ap (λ (d : Slots). is_fresh (image d)) (s.slots h) ∙ begun_now l)) f.quiet))
+                (subst (λ (o : Option (Option Failure)). IsTrue (misses_failure o (is_fresh (image (G.slots (disk_under old.journal)))))) (sym f.plan)
+                (subst (λ (b : Bool). IsTrue (misses_failure (Some g.drive.plan) b)) (sym (ap (λ (d : Slots). is_fresh (image d)) (s.slots h) ∙ begun_now l)) f.quiet))
                 ∙ f.plan;
             quiet = f.quiet;
           },
@@ -420,7 +420,7 @@ module _ {D : Type 0} {G : Ghosts D} (g : Gateway) (old : State G) (s : Stands g
   -- ---- every call
 
   pub step_leads : (new : State G) (step : Step) (answer : Result Out Refusal) → CanBeSaid g old step answer new → StepCall old step answer new
-      → LeadsTo (λ before next made. Event before step answer next made) (Agrees g step) g old new
+      → LeadsTo (λ before next made. Event before step answer next made) (CallAgrees g step) g old new
   step_leads new (steps.Frame from bytes now) answer premise h = own_leads new (Datagram from bytes) now answer h
   step_leads new (steps.Take delta) answer premise h = take_leads new delta answer h
   step_leads new (steps.Tick now) answer premise h = own_leads new Clock now answer h

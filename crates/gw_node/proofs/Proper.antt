@@ -6,7 +6,7 @@ use Rattle.rep_op.specs.declared.op.Op.{Op}
 use Rattle.rep_op.specs.declared.op.Op.TheVariants.{Session as OfSession, Put as OfPut, Ack, Retain as OfRetain}
 use Rattle.rep_ops.specs.Deltas.{IsDelta}
 use Rattle.rep_op.specs.Orders.{HasTwice, operation_cmp, put_cmp, clock_of, clock_cmp}
-use Rattle.rep_op.specs.Sets.{operation_of, operation_at, put_of, put_at, retain_of, retain_at, acknowledges, Stands, IsConsistent, Agrees, Within}
+use Rattle.rep_op.specs.Sets.{operation_of, operation_at, put_of, put_at, retain_of, retain_at, acknowledges, HasOperation, IsConsistent, Agrees, Within}
 use Rattle.rep_ops.specs.Splitting.{all_of}
 use Rattle.rep_ops.proofs.Joined.{rising_ascending}
 use Rattle.rep_ops.proofs.Rising.{rising_apart}
@@ -23,7 +23,7 @@ covered : (c : List ℕ) (r f l seq : ℕ) → f ≤ seq → seq ≤ l → ackno
 covered c r f l seq from upto = and_from _ _ (and_from _ _ (and_from _ _ (same_client-itself c) (eq-eqb r r refl)) (le-leb f seq from)) (le-leb seq l upto)
 
 module _ (d : List Op) (once : ¬ (HasTwice d)) where
-  stands_in : (op : Op) → IsIn op d → Stands d op
+  stands_in : (op : Op) → IsIn op d → HasOperation d op
   stands_in (OfSession c s i o) place =
       let here : operation_of c (OfSession c s i o) ≡ Some ((s, i), o) = rw (same_client-itself c) refl in
       find_of operation_cmp operation_exact (operation_of c) (s, i) o d (λ y w p is. operations_single c d once y (OfSession c s i o) (s, i) w o p place is here) (OfSession c s i o) here place
@@ -35,7 +35,7 @@ module _ (d : List Op) (once : ¬ (HasTwice d)) where
       find_of clock_cmp clock_exact (retain_of t) (clock_of k) k d (λ y w q is. retains_single t d once y (OfRetain t k) (clock_of k) w k q place is here) (OfRetain t k) here place
   stands_in (Ack c origin first last) place = λ seq from upto. any_in (acknowledges c (seq, origin)) (Ack c origin first last) d (covered c origin first last seq from upto) place
 
-  stand_all : (ops : List Op) → ((op : Op) → IsIn op ops → IsIn op d) → AllByRecursion (Stands d) ops
+  stand_all : (ops : List Op) → ((op : Op) → IsIn op ops → IsIn op d) → AllByRecursion (HasOperation d) ops
   stand_all [] f = tt
   stand_all (op ∷ ops) f = (stands_in op (f op (inl refl)), stand_all ops (λ x h. f x (inr h)))
 

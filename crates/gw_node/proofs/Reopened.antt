@@ -5,8 +5,8 @@ use Rattle.rep_op.specs.declared.op.Op.{Op}
 use Rattle.jr_disk.specs.declared.disk.Disk.{Ghosts}
 use Rattle.jr_journal.specs.Faults.{is_fresh, fault_of}
 use Rattle.jr_journal.specs.Crashes.{Leaves, recovered}
-use Rattle.jr_journal.specs.Arranged.{is_quiet}
-use Rattle.jr_journal.specs.Parts.{disk_of, gateway_of}
+use Rattle.jr_journal.specs.Arranged.{misses_failure}
+use Rattle.jr_journal.specs.Parts.{disk_under, gateway_of}
 use Rattle.gw_answer.specs.declared.refusal.Refusal.{Refusal}
 use Rattle.gw_answer.specs.declared.refusal.Refusal.TheVariants as refusals
 use Rattle.gw_node.specs.Parts.{State, is_halted}
@@ -36,7 +36,7 @@ module _ {D : Type 0} {G : Ghosts D} where
     starved = λ e. e;
     fault = λ _. tt;
     slots = λ _. inl refl;
-    leaves = λ _. leaves_itself (gateway_of old.journal) (G.slots (disk_of old.journal));
+    leaves = λ _. leaves_itself (gateway_of old.journal) (G.slots (disk_under old.journal));
     blameless = λ _ _ _. (λ disk. disk, refl);
   }
 
@@ -48,13 +48,13 @@ module _ {D : Type 0} {G : Ghosts D} where
     pub local : mid.local ≡ old.local
     pub gateway : gateway_of mid.journal ≡ gateway_of old.journal
     pub runs : is_halted mid ≡ false
-    pub failures : G.failures (disk_of old.journal) ≤ G.failures (disk_of mid.journal)
-    pub starved : G.starved (disk_of old.journal) ≡ true → G.starved (disk_of mid.journal) ≡ true
+    pub failures : G.failures (disk_under old.journal) ≤ G.failures (disk_under mid.journal)
+    pub starved : G.starved (disk_under old.journal) ≡ true → G.starved (disk_under mid.journal) ≡ true
     pub found : G.honest → deltas ≡ on_disk old
     pub sound : G.honest → fault_of (gateway_of old.journal) (image_of old) ≡ None
-    pub known : G.honest → G.slots (disk_of mid.journal) ≡ recovered (gateway_of old.journal) (image_of old)
-    pub durable : G.honest → Leaves (gateway_of old.journal) (G.slots (disk_of mid.journal)) deltas
-    pub quiet : G.honest → G.starved (disk_of mid.journal) ≡ false → IsTrue (is_quiet (G.outlook (disk_of old.journal)) (is_fresh (image_of old))) → G.outlook (disk_of mid.journal) ≡ G.outlook (disk_of old.journal)
+    pub known : G.honest → G.slots (disk_under mid.journal) ≡ recovered (gateway_of old.journal) (image_of old)
+    pub durable : G.honest → Leaves (gateway_of old.journal) (G.slots (disk_under mid.journal)) deltas
+    pub quiet : G.honest → G.starved (disk_under mid.journal) ≡ false → IsTrue (misses_failure (G.outlook (disk_under old.journal)) (is_fresh (image_of old))) → G.outlook (disk_under mid.journal) ≡ G.outlook (disk_under old.journal)
 
   -- and what was read could not be taken
   pub given_back : (old mid new : State G) (deltas : List (List Op)) (halted : Bool) (refusal : Refusal) → halted ≡ is_halted old → IsRead old mid deltas → IsGivenBack mid deltas halted refusal new
@@ -69,13 +69,13 @@ module _ {D : Type 0} {G : Ghosts D} where
       gateway = b.gateway ∙ w.gateway;
       halts = b.halts;
       wanting = λ memory. b.wanting memory ∙ (as_before halted (is_halted mid) w.runs ∙ was);
-      failures = subst (λ (d : D). G.failures (disk_of old.journal) ≤ G.failures d) (sym b.disk) w.failures;
+      failures = subst (λ (d : D). G.failures (disk_under old.journal) ≤ G.failures d) (sym b.disk) w.failures;
       cause = λ disk. absurd (misfit_no_disk deltas refusal b.why disk);
       starved = λ e. ap G.starved b.disk ∙ w.starved e;
       fault = λ honest. misfit_fault (gateway_of old.journal) (image_of old) deltas refusal (w.found honest) b.why;
-      slots = λ honest. misfit_leaves (gateway_of old.journal) (G.slots (disk_of old.journal)) (G.slots (disk_of new.journal)) deltas refusal (ap G.slots b.disk ∙ w.known honest) b.why;
+      slots = λ honest. misfit_leaves (gateway_of old.journal) (G.slots (disk_under old.journal)) (G.slots (disk_under new.journal)) deltas refusal (ap G.slots b.disk ∙ w.known honest) b.why;
       leaves = λ honest.
-          leaves_no_more (gateway_of old.journal) (G.slots (disk_of old.journal)) (G.slots (disk_of new.journal)) deltas (w.found honest) (w.sound honest)
+          leaves_no_more (gateway_of old.journal) (G.slots (disk_under old.journal)) (G.slots (disk_under new.journal)) deltas (w.found honest) (w.sound honest)
           (subst (λ (d : D). Leaves (gateway_of old.journal) (G.slots d) deltas) (sym b.disk) (w.durable honest));
       blameless = λ honest fed quiet. (misfit_no_disk deltas refusal b.why, ap G.outlook b.disk ∙ w.quiet honest (sym (ap G.starved b.disk) ∙ fed) quiet);
     },

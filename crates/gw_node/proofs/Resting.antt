@@ -1,7 +1,7 @@
 -- A tick that has nothing to do.
 use Rattle.std.proofs.Common.{◌≡◌, ℕ, ◌≤◌, false, true, List, [], Option, Some, None, Ok, Err, refl, sym, ap, ◌∙◌, subst}
 use Rattle.rep_op.specs.declared.op.Op.{Op}
-use Rattle.rep_ops.specs.Making.{AreApart}
+use Rattle.rep_ops.specs.Making.{HaveOwnNames}
 use Rattle.sn_local.specs.declared.config.Config.{Config}
 use Rattle.sn_plan.specs.Drafts.{nothing}
 use Rattle.sn_local.specs.Locals.{Local}
@@ -26,7 +26,7 @@ pub remembered : (idle : Option ℕ) (until now : ℕ) (config : Config) (kept :
 remembered idle until now config kept local is before h =
     idle_before now until before config.gateway config.advertise config.field (seen_of kept) local (subst (λ (known : Option ℕ). rests known config kept local ≡ true) is h)
 
-none_apart : AreApart []
+none_apart : HaveOwnNames []
 none_apart = record { well_made = tt; once = λ w. absurd cc }
 
 module _ {D : Type 0} {G : Ghosts D} where

@@ -9,7 +9,7 @@ use Rattle.rep_op.specs.declared.op.Op.{Op}
 use Rattle.rep_op.specs.declared.op.Op.TheVariants.{Session as OfSession, Put as OfPut, Ack, Retain as OfRetain}
 use Rattle.rep_op.specs.declared.op.Subject.{Subject}
 use Rattle.rep_op.specs.Orders.{clock_of}
-use Rattle.rep_op.specs.Sets.{operation_at, put_at, retain_at, Stands, Agrees, IsConsistent}
+use Rattle.rep_op.specs.Sets.{operation_at, put_at, retain_at, HasOperation, Agrees, IsConsistent}
 use Rattle.rep_ops.specs.Splitting.{all_of}
 use Rattle.rep_ops.proofs.Splitting.{all_of_more}
 use Rattle.rep_model.specs.Keep.{CountsAs}
@@ -63,8 +63,8 @@ no_full ds roomy h =
 -- ---- and contradicts nothing
 
 module _ (W J K : List Op) (proper : IsConsistent W) (inside : (op : Op) → Contains J op → Contains W op) (keeps : Keeps J K) where
-  stands : (op : Op) → Contains W op → Stands W op
-  stands op place = All-contains (Stands W) W op (All-from_recursion (Stands W) W proper) place
+  stands : (op : Op) → Contains W op → HasOperation W op
+  stands op place = All-contains (HasOperation W) W op (All-from_recursion (HasOperation W) W proper) place
 
   agrees_kept : (op : Op) → Contains W op → Agrees K op
   agrees_kept (OfSession c stamp counter change) place =

@@ -36,7 +36,7 @@ use Rattle.gw_node.specs.Keeping.{Keeps}
 use Rattle.gw_node.specs.Parts.{State, is_halted, IsUnchanged, IsUntouched}
 use Rattle.gw_node.specs.Plans.{IsPlanFor}
 use Rattle.gw_node.specs.Calls.{AreTooMuch}
-use Rattle.gw_node.specs.Standing.{OwnAgrees, Agrees, AgreeInTurn}
+use Rattle.gw_node.specs.Standing.{OwnAgrees, CallAgrees, AgreeInTurn}
 use Rattle.gw_node.specs.inner.Ahead.{MakesAhead, IsDoneAhead, OwnAhead, TakeAhead, StepAhead}
 use Rattle.gw_node.specs.inner.Rows.{TurnAhead, OneMore, WentOn}
 use Rattle.gw_node.proofs.Unwritten.{nothing_done}
@@ -149,7 +149,7 @@ pub record Leads {D : Type 0} {G : Ghosts D} (here there : Gateway) (deltas : Li
   pub made : List (List Op)
   pub does : StepOf there step answer next made
   pub ahead : IsAhead here next (deltas ++ put_by step answer) base new
-  pub due : Agrees there step → AreNext there.taken (put_by step answer)
+  pub due : CallAgrees there step → AreNext there.taken (put_by step answer)
 
 -- what calls lead to
 pub record AllLead {D : Type 0} {G : Ghosts D} (here there : Gateway) (deltas : List (List Op)) (base : State G) (calls : List Step) (answers : Answers) (new : State G) : Type 0 where

@@ -4,7 +4,7 @@ use Rattle.std.specs.List.{AllByRecursion}
 use Rattle.rep_op.specs.declared.op.Op.{Op}
 use Rattle.rep_ops.specs.Making.{IsDeltaOf}
 use Rattle.rep_op.specs.Sets.{Same}
-use Rattle.rep_ops.specs.Spelling.{spelling, IsWithinLimit}
+use Rattle.rep_ops.specs.Spelling.{delta_spelling, IsDeltaWithinLimit}
 use Rattle.rep_ops.specs.Splitting.{all_of, IsPart, AreFull, IsSplit, AreDeltasOf}
 use Rattle.rep_ops.proofs.Canonical.{one_delta}
 use Rattle.rep_ops.proofs.Sizes.{spelled_longer}
@@ -27,10 +27,10 @@ tail-same x y xs ys e = cc
 -- ---- lengths
 
 -- a part that goes on after a full one would pass the limit
-too-long : (d : List Op) (op : Op) (r : List Op) → IsWithinLimit (d ++ op ∷ r) → 8388608 < length (spelling (d ++ op ∷ [])) → ⊥
+too-long : (d : List Op) (op : Op) (r : List Op) → IsDeltaWithinLimit (d ++ op ∷ r) → 8388608 < length (delta_spelling (d ++ op ∷ [])) → ⊥
 too-long d op r within full =
-    let more : length (spelling (d ++ op ∷ [])) ≤ length (spelling (d ++ op ∷ r)) =
-    subst (λ (e : List Op). length (spelling (d ++ op ∷ [])) ≤ length (spelling e)) (append_assoc d (op ∷ []) r) (spelled_longer (d ++ op ∷ []) r) in
+    let more : length (delta_spelling (d ++ op ∷ [])) ≤ length (delta_spelling (d ++ op ∷ r)) =
+    subst (λ (e : List Op). length (delta_spelling (d ++ op ∷ [])) ≤ length (delta_spelling e)) (append_assoc d (op ∷ []) r) (spelled_longer (d ++ op ∷ []) r) in
     omega (arith, more, within, full)
 
 -- ---- the first part of two splits
@@ -60,7 +60,7 @@ no-longer d e Y [] parts full other g = no-cons g.0 (g.1 ++ Y) g.3
 no-longer d e Y ([] ∷ ds) parts full other g = parts.1.0.some refl
 no-longer d e Y ((o ∷ n) ∷ ds) parts full other g =
     let same : o ≡ g.0 = head-same o g.0 (n ++ all_of ds) (g.1 ++ Y) g.3 in
-    too-long d g.0 g.1 (subst IsWithinLimit g.2 other.within) (subst (λ (op : Op). 8388608 < length (spelling (d ++ op ∷ []))) same full.0)
+    too-long d g.0 g.1 (subst IsDeltaWithinLimit g.2 other.within) (subst (λ (op : Op). 8388608 < length (delta_spelling (d ++ op ∷ []))) same full.0)
 
 some-part : (d : List Op) (ds : List (List Op)) → IsPart d → [] ≡ all_of (d ∷ ds) → ⊥
 some-part [] ds part e = part.some refl

@@ -7,13 +7,13 @@ use Rattle.rep_op.specs.declared.op.Op.{Op}
 use Rattle.rep_op.specs.declared.op.Op.TheVariants.{Session as OfSession, Put as OfPut, Retain as OfRetain}
 use Rattle.rep_ops.specs.Deltas.{IsDelta}
 use Rattle.rep_op.specs.Orders.{clock_of}
-use Rattle.rep_op.specs.Sets.{operation_at, put_at, retain_at, Stands as StandsIn, IsConsistent}
+use Rattle.rep_op.specs.Sets.{operation_at, put_at, retain_at, HasOperation, IsConsistent}
 use Rattle.rep_model.specs.Keep.{CountsAs, IsKeptOf}
 use Rattle.rep_model.specs.Taking.{AllAgree, Fits}
 use Rattle.sn_local.specs.Locals.{Local}
 use Rattle.jr_disk.specs.declared.disk.Disk.{Ghosts}
-use Rattle.jr_disk.specs.declared.disk.Plan.{Plan as Failure}
-use Rattle.jr_disk.specs.declared.disk.Plan.TheVariants.{Stop, KeepBack, FailSync}
+use Rattle.jr_disk.specs.declared.disk.Failure.{Failure}
+use Rattle.jr_disk.specs.declared.disk.Failure.TheVariants.{Stop, KeepBack, FailSync}
 use Rattle.jr_disk.specs.declared.disk.Slot.{Slot}
 use Rattle.jr_disk.specs.declared.disk.Slot.TheVariants.{First, Second}
 use Rattle.jr_journal.specs.declared.fault.JournalFault.TheVariants as journal_faults
@@ -22,14 +22,14 @@ use Rattle.jr_journal.specs.Faults.{is_fresh}
 use Rattle.jr_journal.specs.Crashes.{Opens, recovered, reads_first}
 use Rattle.jr_journal.specs.Arranged.{after_append, IsStruck, AppendedAs}
 use Rattle.jr_journal.specs.Journals.{emptied}
-use Rattle.jr_journal.specs.Parts.{disk_of, gateway_of, slot_of}
+use Rattle.jr_journal.specs.Parts.{disk_under, gateway_of, slot_of}
 use Rattle.jr_journal.specs.Records.{written, records, slot_content}
 use Rattle.gw_event.specs.Drives.{with_record, torn, more_records, left_by}
 use Rattle.gw_event.specs.Gateways.{Gateway, with_refused}
 use Rattle.gw_node.specs.Keeping.{Keeps}
 use Rattle.gw_node.specs.Parts.{State, is_halted, IsUntouched, IsUnchanged}
-use Rattle.gw_node.specs.Standing.{IsSynced, Lasts, Stands, IsForeseen, fated, LeadsTo}
-use Rattle.gw_node.specs.Taking.{on_disk, IsBetween, StandsFor, HasTaken}
+use Rattle.gw_node.specs.Standing.{IsSynced, Lasts, Represents, IsForeseen, with_failure, LeadsTo}
+use Rattle.gw_node.specs.Taking.{on_disk, IsBetween, RecoversTo, HasTaken}
 use Rattle.gw_node.specs.Writing.{IsWritten, IsFailed}
 use Rattle.gw_node.proofs.Keeping.{keeps_more}
 use Rattle.gw_node.proofs.Occurring.{operation_occurs, put_occurs, retain_occurs}
@@ -44,17 +44,17 @@ keeps-read S J K between proper keeps counts = record {
   counts = counts;
   operations_taken = λ c name change e.
       let there = keeps.operations_taken c name change e in
-      let stands = All-contains (StandsIn J) J (OfSession c name.0 name.1 change) (All-from_recursion (StandsIn J) J proper) there in
+      let stands = All-contains (HasOperation J) J (OfSession c name.0 name.1 change) (All-from_recursion (HasOperation J) J proper) there in
       operation_occurs c S (name.0, name.1) change
       (subst (λ (T : List Op). operation_at c T (name.0, name.1) ≡ Some change) (append-nil S) (between.upper.operations_in c (name.0, name.1) change stands));
   puts_taken = λ c name put e.
       let there = keeps.puts_taken c name put e in
-      let stands = All-contains (StandsIn J) J (OfPut c put) (All-from_recursion (StandsIn J) J proper) there.0 in
+      let stands = All-contains (HasOperation J) J (OfPut c put) (All-from_recursion (HasOperation J) J proper) there.0 in
       let found = subst (λ (T : List Op). put_at c T (put.seq, put.origin) ≡ Some put) (append-nil S) (between.upper.puts_in c (put.seq, put.origin) put stands) in
       ((put_occurs c S (put.seq, put.origin) put found).0, there.1);
   retains_taken = λ t name last e.
       let there = keeps.retains_taken t name last e in
-      let stands = All-contains (StandsIn J) J (OfRetain t last) (All-from_recursion (StandsIn J) J proper) there.0 in
+      let stands = All-contains (HasOperation J) J (OfRetain t last) (All-from_recursion (HasOperation J) J proper) there.0 in
       let found = subst (λ (T : List Op). retain_at t T (clock_of last) ≡ Some last) (append-nil S) (between.upper.retains_in t (clock_of last) last stands) in
       ((retain_occurs t S (clock_of last) last found).0, there.1);
 }
@@ -138,30 +138,30 @@ struck failure delta g = record g { refused = delta ∷ []; drive = torn failure
 
 module _ {D : Type 0} {G : Ghosts D} where
   -- what lasts at a gateway a node that stands for it has taken, as long as it goes on
-  pub to_taken : (g : Gateway) (state : State G) → Stands g state → g.drive.halted ≡ false → G.honest → Lasts g → HasTaken g.taken [] state
+  pub to_taken : (g : Gateway) (state : State G) → Represents g state → g.drive.halted ≡ false → G.honest → Lasts g → HasTaken g.taken [] state
   to_taken g state s runs honest l = record {
     counts = s.keeps.counts;
     quiet = λ _. refl;
     images = λ _.
-        subst (λ (n : ℕ). EachCrash (λ i. StandsFor n g.taken [] i) (G.slots (disk_of state.journal))) (sym s.numbered)
-        (subst (λ (d : Slots). EachCrash (λ i. StandsFor g.config.gateway g.taken [] i) d) (sym (s.slots honest))
-        (λ k m. subst (λ (T : List Op). StandsFor g.config.gateway T [] (after_crash k m g.drive.slots)) (without _ g.taken g.refused (l.none runs)) (l.images k m)));
+        subst (λ (n : ℕ). EachCrash (λ i. RecoversTo n g.taken [] i) (G.slots (disk_under state.journal))) (sym s.numbered)
+        (subst (λ (d : Slots). EachCrash (λ i. RecoversTo g.config.gateway g.taken [] i) d) (sym (s.slots honest))
+        (λ k m. subst (λ (T : List Op). RecoversTo g.config.gateway T [] (after_crash k m g.drive.slots)) (without _ g.taken g.refused (l.none runs)) (l.images k m)));
     begun = λ _. subst (λ (d : Slots). EachCrash (λ i. is_fresh i ≡ false) d) (sym (s.slots honest)) l.begun;
   }
 
   -- and the other way
-  pub from_taken : (g : Gateway) (state : State G) → Stands g state → G.honest → g.refused ≡ [] → (g.drive.halted ≡ false → IsSynced g.drive.slots) → HasTaken g.taken [] state → Lasts g
+  pub from_taken : (g : Gateway) (state : State G) → Represents g state → G.honest → g.refused ≡ [] → (g.drive.halted ≡ false → IsSynced g.drive.slots) → HasTaken g.taken [] state → Lasts g
   from_taken g state s honest none synced h = record {
     synced = synced;
     none = λ _. none;
     images = λ k m.
-        subst (λ (T : List Op). StandsFor g.config.gateway T [] (after_crash k m g.drive.slots)) (sym (without _ g.taken g.refused none))
-        (subst (λ (d : Slots). EachCrash (λ i. StandsFor g.config.gateway g.taken [] i) d) (s.slots honest)
-        (subst (λ (n : ℕ). EachCrash (λ i. StandsFor n g.taken [] i) (G.slots (disk_of state.journal))) s.numbered (h.images honest)) k m);
+        subst (λ (T : List Op). RecoversTo g.config.gateway T [] (after_crash k m g.drive.slots)) (sym (without _ g.taken g.refused none))
+        (subst (λ (d : Slots). EachCrash (λ i. RecoversTo g.config.gateway g.taken [] i) d) (s.slots honest)
+        (subst (λ (n : ℕ). EachCrash (λ i. RecoversTo n g.taken [] i) (G.slots (disk_under state.journal))) s.numbered (h.images honest)) k m);
     begun = subst (λ (d : Slots). EachCrash (λ i. is_fresh i ≡ false) d) (s.slots honest) (h.begun honest);
   }
 
-  module _ (g : Gateway) (old : State G) (s : Stands g old) where
+  module _ (g : Gateway) (old : State G) (s : Represents g old) where
     pub goes : is_halted old ≡ false → g.drive.halted ≡ false
     goes runs = sym s.halted ∙ runs
 
@@ -173,7 +173,7 @@ module _ {D : Type 0} {G : Ghosts D} where
     pub keeps_still : (new : State G) → new.kept ≡ old.kept → Keeps g.taken new.kept
     keeps_still new kept = subst (λ (K : List Op). Keeps g.taken K) (sym kept) s.keeps
 
-    pub unchanged : (new : State G) (local : Local) → new.config ≡ old.config → Keeps g.taken new.kept → new.local ≡ local → IsUntouched old.journal new.journal → Stands (record g { local = local }) new
+    pub unchanged : (new : State G) (local : Local) → new.config ≡ old.config → Keeps g.taken new.kept → new.local ≡ local → IsUntouched old.journal new.journal → Represents (record g { local = local }) new
     unchanged new local config keeps bound u = record {
       configured = config ∙ s.configured;
       numbered = u.gateway ∙ s.numbered;
@@ -206,7 +206,7 @@ module _ {D : Type 0} {G : Ghosts D} where
     -- ---- one more record
 
     module _ (new : State G) (delta : List Op) (w : IsWritten old.journal delta new.journal) where
-      pub written_stands : (local : Local) → new.config ≡ old.config → new.local ≡ local → IsKeptOf (old.kept ++ delta) new.kept → Stands (wrote delta local g) new
+      pub written_stands : (local : Local) → new.config ≡ old.config → new.local ≡ local → IsKeptOf (old.kept ++ delta) new.kept → Represents (wrote delta local g) new
       written_stands local config bound kept = record {
         configured = config ∙ s.configured;
         numbered = w.gateway ∙ s.numbered;
@@ -219,7 +219,7 @@ module _ {D : Type 0} {G : Ghosts D} where
 
       pub written_leads : (Happens : Gateway → Gateway → List (List Op) → Type 0) (Agrees : Type 0) (local : Local) (made : List (List Op))
           → new.config ≡ old.config → new.local ≡ local → IsDelta delta → Fits old.kept delta → IsKeptOf (old.kept ++ delta) new.kept → (Agrees → AllAgree g.taken delta)
-          → Happens (fated None g) (wrote delta local g) made → LeadsTo Happens Agrees g old new
+          → Happens (with_failure None g) (wrote delta local g) made → LeadsTo Happens Agrees g old new
       written_leads Happens Agrees local made config bound is fits kept agree happens =
           let stands = written_stands local config bound kept in
           record {
@@ -239,10 +239,10 @@ module _ {D : Type 0} {G : Ghosts D} where
     -- ---- a failure that came as a delta was written
 
     module _ (new : State G) (delta : List Op) (w : IsFailed old.journal delta new.journal) where
-      fate : Came G.honest (G.starved (disk_of new.journal)) (G.outlook (disk_of old.journal)) (G.slots (disk_of old.journal)) (slot_of old.journal) (written delta) (G.slots (disk_of new.journal)) (G.outlook (disk_of new.journal))
+      fate : Came G.honest (G.starved (disk_under new.journal)) (G.outlook (disk_under old.journal)) (G.slots (disk_under old.journal)) (slot_of old.journal) (written delta) (G.slots (disk_under new.journal)) (G.outlook (disk_under new.journal))
       fate = came G.honest _ _ _ _ _ _ _ w.struck w.known
 
-      torn_stands : new.config ≡ old.config → new.kept ≡ old.kept → new.local ≡ old.local → Stands (struck fate.failure delta g) new
+      torn_stands : new.config ≡ old.config → new.kept ≡ old.kept → new.local ≡ old.local → Represents (struck fate.failure delta g) new
       torn_stands config kept local = record {
         configured = config ∙ s.configured;
         numbered = w.gateway ∙ s.numbered;
@@ -259,16 +259,16 @@ module _ {D : Type 0} {G : Ghosts D} where
         left_before = ap (λ (i : Image). records g.config.gateway i) (left_torn fate.failure g.drive.slots g.drive.slot (written delta) (l.synced (goes w.runs)))
 
         torn_image : (i : Image) → Opens g.config.gateway (records g.config.gateway (image g.drive.slots)) i ⊎ Opens g.config.gateway (records g.config.gateway (image g.drive.slots) ++ delta ∷ []) i
-            → StandsFor g.config.gateway (with_refused (more_records g.config.gateway (struck fate.failure delta g).drive i) g.taken (delta ∷ [])) [] i
+            → RecoversTo g.config.gateway (with_refused (more_records g.config.gateway (struck fate.failure delta g).drive i) g.taken (delta ∷ [])) [] i
         torn_image i (inl opens) =
             let count : length (records g.config.gateway i) ≡ length (records g.config.gateway (left_by 0 (struck fate.failure delta g).drive)) = ap length (opens.0 ∙ sym left_before) in
             let none : more_records g.config.gateway (struck fate.failure delta g).drive i ≡ zero = none_above _ _ count in
-            subst (λ (n : ℕ). StandsFor g.config.gateway (with_refused n g.taken (delta ∷ [])) [] i) (sym none) (opened g.config.gateway g.taken [] (records g.config.gateway (image g.drive.slots)) i opens may.now)
+            subst (λ (n : ℕ). RecoversTo g.config.gateway (with_refused n g.taken (delta ∷ [])) [] i) (sym none) (opened g.config.gateway g.taken [] (records g.config.gateway (image g.drive.slots)) i opens may.now)
         torn_image i (inr opens) =
             let count : length (records g.config.gateway i) ≡ length (records g.config.gateway (left_by 0 (struck fate.failure delta g).drive)) + 1 =
             ap length opens.0 ∙ length-append (records g.config.gateway (image g.drive.slots)) (delta ∷ []) ∙ ap (λ (ds : List (List Op)). length ds + 1) (sym left_before) in
             let one : more_records g.config.gateway (struck fate.failure delta g).drive i ≡ suc zero = one_above _ _ count in
-            subst (λ (n : ℕ). StandsFor g.config.gateway (with_refused n g.taken (delta ∷ [])) [] i) (sym one)
+            subst (λ (n : ℕ). RecoversTo g.config.gateway (with_refused n g.taken (delta ∷ [])) [] i) (sym one)
             (opened g.config.gateway (g.taken ++ delta) [] (records g.config.gateway (image g.drive.slots) ++ delta ∷ []) i opens (taken_then g.taken old.kept delta (records g.config.gateway (image g.drive.slots)) may))
 
       either_begun : (deltas more : List (List Op)) (i : Image) → Opens g.config.gateway deltas i ⊎ Opens g.config.gateway more i → is_fresh i ≡ false
@@ -279,15 +279,15 @@ module _ {D : Type 0} {G : Ghosts D} where
       torn_lasts is fits agrees honest l =
           let taken = to_taken g old s (goes w.runs) honest l in
           let there : StandFor g.taken [] (on_disk old) =
-          records_stand (gateway_of old.journal) g.taken [] (image (G.slots (disk_of old.journal))) (stands_at (gateway_of old.journal) g.taken [] (G.slots (disk_of old.journal)) (taken.images honest)) in
+          records_stand (gateway_of old.journal) g.taken [] (image (G.slots (disk_under old.journal))) (stands_at (gateway_of old.journal) g.taken [] (G.slots (disk_under old.journal)) (taken.images honest)) in
           let same : on_disk old ≡ records g.config.gateway (image g.drive.slots) = λ i. records (s.numbered i) (image (s.slots honest i)) in
           let may : MayFollow g.taken old.kept delta (records g.config.gateway (image g.drive.slots)) =
           record { agrees = agrees; delta = is; counts = s.keeps.counts; fits = fits; now = subst (λ (ds : List (List Op)). StandFor g.taken [] ds) same there } in
           let left : EachCrash (λ i. Opens g.config.gateway (records g.config.gateway (image g.drive.slots)) i ⊎ Opens g.config.gateway (records g.config.gateway (image g.drive.slots) ++ delta ∷ []) i) (struck fate.failure delta g).drive.slots =
           subst (λ (d : Slots). EachCrash (λ i. Opens g.config.gateway (records g.config.gateway (image g.drive.slots)) i ⊎ Opens g.config.gateway (records g.config.gateway (image g.drive.slots) ++ delta ∷ []) i) d)
           (fate.slots honest ∙ (λ i. after_append (Some fate.failure) (s.slots honest i) (s.slot i) (written delta)))
-          (subst (λ (ds : List (List Op)). EachCrash (λ i. Opens g.config.gateway ds i ⊎ Opens g.config.gateway (ds ++ delta ∷ []) i) (G.slots (disk_of new.journal))) same
-          (subst (λ (n : ℕ). EachCrash (λ i. Opens n (on_disk old) i ⊎ Opens n (on_disk old ++ delta ∷ []) i) (G.slots (disk_of new.journal))) s.numbered (w.torn honest))) in
+          (subst (λ (ds : List (List Op)). EachCrash (λ i. Opens g.config.gateway ds i ⊎ Opens g.config.gateway (ds ++ delta ∷ []) i) (G.slots (disk_under new.journal))) same
+          (subst (λ (n : ℕ). EachCrash (λ i. Opens n (on_disk old) i ⊎ Opens n (on_disk old ++ delta ∷ []) i) (G.slots (disk_under new.journal))) s.numbered (w.torn honest))) in
           record {
             synced = λ runs. absurd (true≢false runs);
             none = λ runs. absurd (true≢false runs);
@@ -297,7 +297,7 @@ module _ {D : Type 0} {G : Ghosts D} where
 
       pub torn_leads : (Happens : Gateway → Gateway → List (List Op) → Type 0) (Agrees : Type 0)
           → new.config ≡ old.config → new.kept ≡ old.kept → new.local ≡ old.local → IsDelta delta → Fits old.kept delta → (Agrees → AllAgree g.taken delta)
-          → ((failure : Failure) → Happens (fated (Some failure) g) (struck failure delta g) []) → LeadsTo Happens Agrees g old new
+          → ((failure : Failure) → Happens (with_failure (Some failure) g) (struck failure delta g) []) → LeadsTo Happens Agrees g old new
       torn_leads Happens Agrees config kept local is fits agree happens = record {
         fate = Some fate.failure;
         next = struck fate.failure delta g;

@@ -17,19 +17,19 @@ use Rattle.jr_journal.specs.declared.fault.JournalFault.TheVariants as faults
 use Rattle.jr_journal.specs.declared.journal.Journal.{Journal}
 use Rattle.jr_disk.specs.Disk.{Slots, Image, image}
 use Rattle.jr_journal.specs.Records.{records}
-use Rattle.jr_journal.specs.Faults.{fault_of, IsFault}
+use Rattle.jr_journal.specs.Faults.{fault_of, IsImageFault}
 use Rattle.jr_journal.specs.Crashes.{Leaves, LeavesNoMore, recovered}
 use Rattle.jr_journal.specs.Opening.{synced_slots, slot_read, generation_read}
-use Rattle.jr_journal.specs.Parts.{disk_of, gateway_of, slot_of, generation_of, is_halted as is_stopped}
+use Rattle.jr_journal.specs.Parts.{disk_under, gateway_of, slot_of, generation_of, is_stopped}
 use Rattle.gw_answer.specs.declared.out.Out.{Out}
 use Rattle.gw_answer.specs.declared.refusal.Refusal.{Refusal}
 use Rattle.gw_answer.specs.declared.refusal.Refusal.TheVariants as refusals
 use Rattle.gw_node.specs.declared.node.Node.{Node}
 use Rattle.gw_node.specs.Parts.{State, state_of}
 use Rattle.gw_answer.specs.Answers.{only_sends}
-use Rattle.gw_node.specs.inner.Writing.{refusal_of}
+use Rattle.gw_node.specs.inner.Writing.{refusal_of_journal}
 use Rattle.gw_node.specs.Plans.{IsMisfit}
-use Rattle.gw_node.specs.Taking.{StandsFor, HasTaken}
+use Rattle.gw_node.specs.Taking.{RecoversTo, HasTaken}
 use Rattle.gw_node.specs.Opening.{IsStarted, GoesOnIn, FitInTurn, HasMisfit, IsOpenFault, IsDiskFault, MayRefuse, LeavesSlots}
 use Rattle.gw_node.specs.inner.Opening.{DoNotFit}
 use Rattle.gw_node.specs.Keeping.{Keeps}
@@ -103,21 +103,21 @@ misfit_fault gateway i deltas refusals.Exhausted is h = absurd h
 misfit_fault gateway i deltas (refusals.Journal fault) is h = absurd h
 
 -- a fault of the journal
-pub may_fault : (fault : JournalFault) (excuse : Out) → excuse ≡ only_sends [] → (fault ≡ faults.Halted → ⊥) → MayRefuse (refusal_of fault excuse)
+pub may_fault : (fault : JournalFault) (excuse : Out) → excuse ≡ only_sends [] → (fault ≡ faults.Halted → ⊥) → MayRefuse (refusal_of_journal fault excuse)
 may_fault faults.Disk excuse empty runs = empty
 may_fault faults.Halted excuse empty runs = absurd (runs refl)
 may_fault faults.Memory excuse empty runs = tt
 may_fault faults.Foreign excuse empty runs = tt
 may_fault (faults.BadRecord slot at) excuse empty runs = tt
 
-pub fault_disk : (fault : JournalFault) (excuse : Out) → IsDiskFault (refusal_of fault excuse) → fault ≡ faults.Disk
+pub fault_disk : (fault : JournalFault) (excuse : Out) → IsDiskFault (refusal_of_journal fault excuse) → fault ≡ faults.Disk
 fault_disk faults.Disk excuse h = refl
 fault_disk faults.Halted excuse h = absurd h
 fault_disk faults.Memory excuse h = absurd h
 fault_disk faults.Foreign excuse h = absurd h
 fault_disk (faults.BadRecord slot at) excuse h = absurd h
 
-pub fault_found : (gateway : ℕ) (i : Image) (fault : JournalFault) (excuse : Out) → excuse ≡ only_sends [] → (fault ≡ faults.Halted → ⊥) → IsFault (fault_of gateway i) fault → IsOpenFault gateway i (refusal_of fault excuse)
+pub fault_found : (gateway : ℕ) (i : Image) (fault : JournalFault) (excuse : Out) → excuse ≡ only_sends [] → (fault ≡ faults.Halted → ⊥) → IsImageFault (fault_of gateway i) fault → IsOpenFault gateway i (refusal_of_journal fault excuse)
 fault_found gateway i faults.Disk excuse empty runs h = empty
 fault_found gateway i faults.Halted excuse empty runs h = absurd (runs refl)
 fault_found gateway i faults.Memory excuse empty runs h = tt
@@ -170,23 +170,23 @@ module _ {D : Type 0} {G : Ghosts D} where
   opened_none kept (Err e) gateway old deltas is h = tt
 
   pub opened_again : {R Z E : Type 0} {P : Promises R Z} (kept : R → List Op) (r : Result (Node R D Z P G) E) (journal : Journal D G) (gateway : ℕ) (old : Slots) (deltas : List (List Op))
-      → gateway_of journal ≡ gateway → deltas ≡ records gateway (image old) → Leaves gateway (G.slots (disk_of journal)) deltas
+      → gateway_of journal ≡ gateway → deltas ≡ records gateway (image old) → Leaves gateway (G.slots (disk_under journal)) deltas
       → IfOk r (λ node. (state_of kept node).journal ≡ journal) → IfOk r (λ node. Keeps (all_of deltas) (state_of kept node).kept)
-      → IfOk r (λ node. (S : List Op) (refused : List (List Op)) → StandsFor gateway S refused (image old) → HasTaken (S ++ all_of (records gateway (image old))) [] (state_of kept node))
+      → IfOk r (λ node. (S : List Op) (refused : List (List Op)) → RecoversTo gateway S refused (image old) → HasTaken (S ++ all_of (records gateway (image old))) [] (state_of kept node))
   opened_again kept (Ok node) journal gateway old deltas same is leaves journal_is keeps = λ S refused h.
       subst (λ (ds : List (List Op)). HasTaken (S ++ all_of ds) [] (state_of kept node)) is
       (read_again (state_of kept node) gateway deltas S refused (ap gateway_of journal_is ∙ same) keeps.counts
-      (λ honest. subst (λ (j : Journal D G). Leaves gateway (G.slots (disk_of j)) deltas) (sym journal_is) leaves)
+      (λ honest. subst (λ (j : Journal D G). Leaves gateway (G.slots (disk_under j)) deltas) (sym journal_is) leaves)
       (subst (λ (ds : List (List Op)). StandFor S refused ds) (sym is) (records_stand gateway S refused (image old) h)))
   opened_again kept (Err e) journal gateway old deltas same is leaves journal_is keeps = tt
 
   pub opened_back : {R Z E : Type 0} {P : Promises R Z} (kept : R → List Op) (r : Result (Node R D Z P G) E) (journal : Journal D G) (gateway : ℕ) (old : Slots) (deltas : List (List Op))
-      → gateway_of journal ≡ gateway → deltas ≡ records gateway (image old) → Leaves gateway (G.slots (disk_of journal)) deltas
+      → gateway_of journal ≡ gateway → deltas ≡ records gateway (image old) → Leaves gateway (G.slots (disk_under journal)) deltas
       → IfOk r (λ node. (state_of kept node).journal ≡ journal) → IfOk r (λ node. Keeps (all_of deltas) (state_of kept node).kept)
-      → IfOk r (λ node. (S : List Op) → StandsFor gateway S [] (image old) → HasTaken S [] (state_of kept node))
+      → IfOk r (λ node. (S : List Op) → RecoversTo gateway S [] (image old) → HasTaken S [] (state_of kept node))
   opened_back kept (Ok node) journal gateway old deltas same is leaves journal_is keeps = λ S h.
       read_back (state_of kept node) gateway deltas S (ap gateway_of journal_is ∙ same) keeps.counts
-      (λ honest. subst (λ (j : Journal D G). Leaves gateway (G.slots (disk_of j)) deltas) (sym journal_is) leaves)
+      (λ honest. subst (λ (j : Journal D G). Leaves gateway (G.slots (disk_under j)) deltas) (sym journal_is) leaves)
       (subst (λ (ds : List (List Op)). StandFor S [] ds) (sym is) (records_stand gateway S [] (image old) h))
   opened_back kept (Err e) journal gateway old deltas same is leaves journal_is keeps = tt
 
@@ -214,7 +214,7 @@ misfit_leaves gateway old new deltas refusals.Exhausted is h = absurd h
 misfit_leaves gateway old new deltas (refusals.Journal fault) is h = absurd h
 
 pub fault_leaves : (gateway : ℕ) (old new : Slots) (fault : JournalFault) (excuse : Out) → (fault ≡ faults.Halted → ⊥) → ((fault ≡ faults.Disk → ⊥) → new ≡ synced_slots old)
-    → LeavesSlots gateway old (refusal_of fault excuse) new
+    → LeavesSlots gateway old (refusal_of_journal fault excuse) new
 fault_leaves gateway old new faults.Disk excuse runs h = tt
 fault_leaves gateway old new faults.Halted excuse runs h = absurd (runs refl)
 fault_leaves gateway old new faults.Memory excuse runs h = inr (inl (h (λ e. absurd cc)))
@@ -233,7 +233,7 @@ started_fits (Err e) gateway old deltas is h = tt
 
 -- ---- the law of openings
 
-pub wants_memory : (gateway : ℕ) (S : List Op) (refused : List (List Op)) (i : Image) (refusal : Refusal) → StandsFor gateway S refused i → IsOpenFault gateway i refusal → (IsDiskFault refusal → ⊥) → refusal ≡ refusals.Memory
+pub wants_memory : (gateway : ℕ) (S : List Op) (refused : List (List Op)) (i : Image) (refusal : Refusal) → RecoversTo gateway S refused i → IsOpenFault gateway i refusal → (IsDiskFault refusal → ⊥) → refusal ≡ refusals.Memory
 wants_memory gateway S refused i refusals.Memory h why disk = refl
 wants_memory gateway S refused i (refusals.Journal fault) h why disk = absurd (none-some fault (sym h.sound ∙ why))
 wants_memory gateway S refused i (refusals.Conflict client) h why disk = absurd (no_conflict (records gateway i) h.proper client why)

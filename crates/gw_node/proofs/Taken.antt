@@ -19,7 +19,7 @@ use Rattle.jr_journal.specs.Records.{records}
 use Rattle.jr_journal.specs.Faults.{is_fresh}
 use Rattle.jr_journal.specs.declared.fault.JournalFault.TheVariants as journal_faults
 use Rattle.jr_journal.specs.Crashes.{Opens, Leaves, LeavesOneMore, LeavesEither, LeavesNoMore}
-use Rattle.jr_journal.specs.Parts.{disk_of, gateway_of}
+use Rattle.jr_journal.specs.Parts.{disk_under, gateway_of}
 use Rattle.rep_digest.specs.Digests.{Digested}
 use Rattle.gw_answer.specs.declared.out.Out.{Out}
 use Rattle.gw_answer.specs.declared.refusal.Refusal.{Refusal}
@@ -30,7 +30,7 @@ use Rattle.gw_event.specs.Occasions.{Occasion, Datagram, Clock}
 use Rattle.gw_node.specs.Parts.{State, is_halted, IsUnchanged, IsUntouched}
 use Rattle.gw_node.specs.Writing.{IsWritten, IsFailed, IsRewritten, IsNotRewritten}
 use Rattle.gw_node.specs.Plans.{Makes}
-use Rattle.gw_node.specs.Taking.{on_disk, IsBetween, IsWhole, StandsFor, HasTaken}
+use Rattle.gw_node.specs.Taking.{on_disk, IsBetween, IsWhole, RecoversTo, HasTaken}
 use Rattle.gw_node.specs.Opening.{IsReopened, IsNotReopened, ReopenCall}
 use Rattle.gw_node.specs.Carrying.{TakesMore, TakesNoMore, TakesNothing, TakesAgain, CarriesOn, OwnCarriesOn, ReopenCarriesOn, StepCarriesOn}
 use Rattle.gw_node.specs.Calls.{OwnCall, TakeCall, ViewCall, DigestCall, AnswerCall, CompactCall, StepCall, IsNoted}
@@ -50,9 +50,9 @@ all_left d =
     let second = left_all d.second in
     λ i. record { first = first i; second = second i }
 
-pub stands_at : (gateway : ℕ) (S : List Op) (refused : List (List Op)) (d : Slots) → EachCrash (λ i. StandsFor gateway S refused i) d → StandsFor gateway S refused (image d)
+pub stands_at : (gateway : ℕ) (S : List Op) (refused : List (List Op)) (d : Slots) → EachCrash (λ i. RecoversTo gateway S refused i) d → RecoversTo gateway S refused (image d)
 stands_at gateway S refused d h =
-    subst (λ (i : Image). StandsFor gateway S refused i) (all_left d) (h (length d.first.unsynced) (length d.second.unsynced))
+    subst (λ (i : Image). RecoversTo gateway S refused i) (all_left d) (h (length d.first.unsynced) (length d.second.unsynced))
 
 -- ---- one image
 
@@ -63,10 +63,10 @@ pub record StandFor (S : List Op) (refused : List (List Op)) (deltas : List (Lis
   pub roomy : IsRoomy deltas
   pub proper : IsConsistent (all_of deltas)
 
-pub records_stand : (gateway : ℕ) (S : List Op) (refused : List (List Op)) (i : Image) → StandsFor gateway S refused i → StandFor S refused (records gateway i)
+pub records_stand : (gateway : ℕ) (S : List Op) (refused : List (List Op)) (i : Image) → RecoversTo gateway S refused i → StandFor S refused (records gateway i)
 records_stand gateway S refused i h = record { between = h.between; whole = h.whole; roomy = h.roomy; proper = h.proper }
 
-pub opened : (gateway : ℕ) (S : List Op) (refused : List (List Op)) (deltas : List (List Op)) (i : Image) → Opens gateway deltas i → StandFor S refused deltas → StandsFor gateway S refused i
+pub opened : (gateway : ℕ) (S : List Op) (refused : List (List Op)) (deltas : List (List Op)) (i : Image) → Opens gateway deltas i → StandFor S refused deltas → RecoversTo gateway S refused i
 opened gateway S refused deltas i opens h =
     let there : StandFor S refused (records gateway i) = subst (λ (ds : List (List Op)). StandFor S refused ds) (sym opens.0) h in
     record { sound = opens.1; between = there.between; whole = there.whole; roomy = there.roomy; proper = there.proper }
@@ -130,12 +130,12 @@ module _ (S kept D : List Op) (deltas : List (List Op)) (h : MayFollow S kept D 
   left_out : StandFor S (D ∷ []) deltas
   left_out = record { between = between_refused S D deltas h.now.between; whole = (zero, counted); roomy = h.now.roomy; proper = h.now.proper }
 
-  torn : (gateway : ℕ) (i : Image) → Opens gateway deltas i ⊎ Opens gateway (deltas ++ D ∷ []) i → StandsFor gateway S (D ∷ []) i
+  torn : (gateway : ℕ) (i : Image) → Opens gateway deltas i ⊎ Opens gateway (deltas ++ D ∷ []) i → RecoversTo gateway S (D ∷ []) i
   torn gateway i (inl opens) = opened gateway S (D ∷ []) deltas i opens left_out
   torn gateway i (inr opens) = opened gateway S (D ∷ []) (deltas ++ D ∷ []) i opens left_over
 
-at_gateway : (a b : ℕ) (S : List Op) (refused : List (List Op)) (d : Slots) → b ≡ a → EachCrash (λ i. StandsFor a S refused i) d → EachCrash (λ i. StandsFor b S refused i) d
-at_gateway a b S refused d same h = subst (λ (g : ℕ). EachCrash (λ i. StandsFor g S refused i) d) (sym same) h
+at_gateway : (a b : ℕ) (S : List Op) (refused : List (List Op)) (d : Slots) → b ≡ a → EachCrash (λ i. RecoversTo a S refused i) d → EachCrash (λ i. RecoversTo b S refused i) d
+at_gateway a b S refused d same h = subst (λ (g : ℕ). EachCrash (λ i. RecoversTo g S refused i) d) (sym same) h
 
 -- ---- a base in the place of records
 
@@ -156,7 +156,7 @@ base_stands : (S : List Op) (refused : List (List Op)) (kept : List Op) (base de
 base_stands S refused kept base deltas none held counts h =
     subst (λ (R : List (List Op)). StandFor S R base) (sym none) (base_now S kept base deltas held counts (subst (λ (R : List (List Op)). StandFor S R deltas) none h))
 
-either_stands : (gateway : ℕ) (S : List Op) (refused : List (List Op)) (deltas base : List (List Op)) (i : Image) → StandFor S refused deltas → StandFor S refused base → Opens gateway deltas i ⊎ Opens gateway base i → StandsFor gateway S refused i
+either_stands : (gateway : ℕ) (S : List Op) (refused : List (List Op)) (deltas base : List (List Op)) (i : Image) → StandFor S refused deltas → StandFor S refused base → Opens gateway deltas i ⊎ Opens gateway base i → RecoversTo gateway S refused i
 either_stands gateway S refused deltas base i h b (inl opens) = opened gateway S refused deltas i opens h
 either_stands gateway S refused deltas base i h b (inr opens) = opened gateway S refused base i opens b
 
@@ -171,8 +171,8 @@ stand_again S refused deltas h = record {
 }
 
 -- where a crash leaves no more than before, it stands for as much
-stands_still : (gateway : ℕ) (S : List Op) (refused : List (List Op)) (old new : Slots) → LeavesNoMore gateway old new → EachCrash IsBegun old → EachCrash (λ i. StandsFor gateway S refused i) old
-    → EachCrash (λ i. StandsFor gateway S refused i) new
+stands_still : (gateway : ℕ) (S : List Op) (refused : List (List Op)) (old new : Slots) → LeavesNoMore gateway old new → EachCrash IsBegun old → EachCrash (λ i. RecoversTo gateway S refused i) old
+    → EachCrash (λ i. RecoversTo gateway S refused i) new
 stands_still gateway S refused old new leaves begun h = λ k l.
     let a = leaves k l in
     let i = after_crash a.0 a.1.0 old in
@@ -195,34 +195,34 @@ module _ {D : Type 0} {G : Ghosts D} where
 
   -- beside what had been taken before
   pub read_again : (state : State G) (gateway : ℕ) (deltas : List (List Op)) (S : List Op) (refused : List (List Op)) → gateway_of state.journal ≡ gateway → CountsAs (all_of deltas) state.kept
-      → (G.honest → Leaves gateway (G.slots (disk_of state.journal)) deltas) → StandFor S refused deltas → HasTaken (S ++ all_of deltas) [] state
+      → (G.honest → Leaves gateway (G.slots (disk_under state.journal)) deltas) → StandFor S refused deltas → HasTaken (S ++ all_of deltas) [] state
   read_again state gateway deltas S refused same counts leaves h = record {
     counts = counts_again S refused (all_of deltas) state.kept h.between counts;
     quiet = λ _. refl;
     images = λ honest.
-        at_gateway gateway (gateway_of state.journal) (S ++ all_of deltas) [] (G.slots (disk_of state.journal)) same
-        (λ k l. opened gateway (S ++ all_of deltas) [] deltas (after_crash k l (G.slots (disk_of state.journal))) (leaves honest k l) (stand_again S refused deltas h));
-    begun = λ honest. begun_all gateway (G.slots (disk_of state.journal)) deltas (leaves honest);
+        at_gateway gateway (gateway_of state.journal) (S ++ all_of deltas) [] (G.slots (disk_under state.journal)) same
+        (λ k l. opened gateway (S ++ all_of deltas) [] deltas (after_crash k l (G.slots (disk_under state.journal))) (leaves honest k l) (stand_again S refused deltas h));
+    begun = λ honest. begun_all gateway (G.slots (disk_under state.journal)) deltas (leaves honest);
   }
 
   -- where nothing was refused it is what had been taken
   pub read_back : (state : State G) (gateway : ℕ) (deltas : List (List Op)) (S : List Op) → gateway_of state.journal ≡ gateway → CountsAs (all_of deltas) state.kept
-      → (G.honest → Leaves gateway (G.slots (disk_of state.journal)) deltas) → StandFor S [] deltas → HasTaken S [] state
+      → (G.honest → Leaves gateway (G.slots (disk_under state.journal)) deltas) → StandFor S [] deltas → HasTaken S [] state
   read_back state gateway deltas S same counts leaves h = record {
     counts = same_trans counts (as_taken S (all_of deltas) h.whole);
     quiet = λ _. refl;
     images = λ honest.
-        at_gateway gateway (gateway_of state.journal) S [] (G.slots (disk_of state.journal)) same
-        (λ k l. opened gateway S [] deltas (after_crash k l (G.slots (disk_of state.journal))) (leaves honest k l) h);
-    begun = λ honest. begun_all gateway (G.slots (disk_of state.journal)) deltas (leaves honest);
+        at_gateway gateway (gateway_of state.journal) S [] (G.slots (disk_under state.journal)) same
+        (λ k l. opened gateway S [] deltas (after_crash k l (G.slots (disk_under state.journal))) (leaves honest k l) h);
+    begun = λ honest. begun_all gateway (G.slots (disk_under state.journal)) deltas (leaves honest);
   }
 
   -- ---- one call
 
   before : (old : State G) (S : List Op) (refused : List (List Op)) → HasTaken S refused old → G.honest → StandFor S refused (on_disk old)
   before old S refused h honest =
-      records_stand (gateway_of old.journal) S refused (image (G.slots (disk_of old.journal)))
-      (stands_at (gateway_of old.journal) S refused (G.slots (disk_of old.journal)) (h.images honest))
+      records_stand (gateway_of old.journal) S refused (image (G.slots (disk_under old.journal)))
+      (stands_at (gateway_of old.journal) S refused (G.slots (disk_under old.journal)) (h.images honest))
 
   follow : (old : State G) (S delta : List Op) → AllAgree S delta → IsDelta delta → Fits old.kept delta → HasTaken S [] old → G.honest → MayFollow S old.kept delta (on_disk old)
   follow old S delta all is fits h honest = record { agrees = all; delta = is; counts = h.counts; fits = fits; now = before old S [] h honest }
@@ -232,10 +232,10 @@ module _ {D : Type 0} {G : Ghosts D} where
     counts = counts-join S old.kept delta new.kept h.counts kept;
     quiet = λ _. refl;
     images = λ honest.
-        at_gateway (gateway_of old.journal) (gateway_of new.journal) (S ++ delta) [] (G.slots (disk_of new.journal)) w.gateway
-        (λ k l. opened (gateway_of old.journal) (S ++ delta) [] (on_disk old ++ delta ∷ []) (after_crash k l (G.slots (disk_of new.journal))) (w.durable honest k l)
+        at_gateway (gateway_of old.journal) (gateway_of new.journal) (S ++ delta) [] (G.slots (disk_under new.journal)) w.gateway
+        (λ k l. opened (gateway_of old.journal) (S ++ delta) [] (on_disk old ++ delta ∷ []) (after_crash k l (G.slots (disk_under new.journal))) (w.durable honest k l)
         (taken_then S old.kept delta (on_disk old) (follow old S delta all is fits h honest)));
-    begun = λ honest. begun_all (gateway_of old.journal) (G.slots (disk_of new.journal)) (on_disk old ++ delta ∷ []) (w.durable honest);
+    begun = λ honest. begun_all (gateway_of old.journal) (G.slots (disk_under new.journal)) (on_disk old ++ delta ∷ []) (w.durable honest);
   }
 
   pub no_more : (old new : State G) (delta : List Op) → IsDelta delta → Fits old.kept delta → new.kept ≡ old.kept → IsFailed old.journal delta new.journal → TakesNoMore old delta new
@@ -243,19 +243,19 @@ module _ {D : Type 0} {G : Ghosts D} where
     counts = subst (λ (K : List Op). CountsAs S K) (sym kept) h.counts;
     quiet = λ runs. absurd (let halts = w.halts in cc);
     images = λ honest.
-        at_gateway (gateway_of old.journal) (gateway_of new.journal) S (delta ∷ []) (G.slots (disk_of new.journal)) w.gateway
-        (λ k l. torn S old.kept delta (on_disk old) (follow old S delta all is fits h honest) (gateway_of old.journal) (after_crash k l (G.slots (disk_of new.journal))) (w.torn honest k l));
-    begun = λ honest. begun_one_more (gateway_of old.journal) (G.slots (disk_of new.journal)) (on_disk old) delta (w.torn honest);
+        at_gateway (gateway_of old.journal) (gateway_of new.journal) S (delta ∷ []) (G.slots (disk_under new.journal)) w.gateway
+        (λ k l. torn S old.kept delta (on_disk old) (follow old S delta all is fits h honest) (gateway_of old.journal) (after_crash k l (G.slots (disk_under new.journal))) (w.torn honest k l));
+    begun = λ honest. begun_one_more (gateway_of old.journal) (G.slots (disk_under new.journal)) (on_disk old) delta (w.torn honest);
   }
 
-  untouched_begun : (old new : Journal D G) → IsUntouched old new → (G.honest → EachCrash IsBegun (G.slots (disk_of old))) → G.honest → EachCrash IsBegun (G.slots (disk_of new))
+  untouched_begun : (old new : Journal D G) → IsUntouched old new → (G.honest → EachCrash IsBegun (G.slots (disk_under old))) → G.honest → EachCrash IsBegun (G.slots (disk_under new))
   untouched_begun old new u begun honest = subst (λ (d : D). EachCrash IsBegun (G.slots d)) (sym u.disk) (begun honest)
 
-  untouched_images : (old new : Journal D G) (S : List Op) (refused : List (List Op)) → IsUntouched old new → (G.honest → EachCrash (λ i. StandsFor (gateway_of old) S refused i) (G.slots (disk_of old)))
-      → G.honest → EachCrash (λ i. StandsFor (gateway_of new) S refused i) (G.slots (disk_of new))
+  untouched_images : (old new : Journal D G) (S : List Op) (refused : List (List Op)) → IsUntouched old new → (G.honest → EachCrash (λ i. RecoversTo (gateway_of old) S refused i) (G.slots (disk_under old)))
+      → G.honest → EachCrash (λ i. RecoversTo (gateway_of new) S refused i) (G.slots (disk_under new))
   untouched_images old new S refused u images honest =
-      at_gateway (gateway_of old) (gateway_of new) S refused (G.slots (disk_of new)) u.gateway
-      (subst (λ (d : D). EachCrash (λ i. StandsFor (gateway_of old) S refused i) (G.slots d)) (sym u.disk) (images honest))
+      at_gateway (gateway_of old) (gateway_of new) S refused (G.slots (disk_under new)) u.gateway
+      (subst (λ (d : D). EachCrash (λ i. RecoversTo (gateway_of old) S refused i) (G.slots d)) (sym u.disk) (images honest))
 
   -- with nothing new
   pub same : (old new : State G) → new.kept ≡ old.kept → IsUntouched old.journal new.journal → TakesNothing old new
@@ -268,13 +268,13 @@ module _ {D : Type 0} {G : Ghosts D} where
 
   -- another failure is arranged on the disk, and its slots are as they were
   pub still : (old new : State G) → new.kept ≡ old.kept → gateway_of new.journal ≡ gateway_of old.journal → is_halted new ≡ is_halted old
-      → G.slots (disk_of new.journal) ≡ G.slots (disk_of old.journal) → TakesNothing old new
+      → G.slots (disk_under new.journal) ≡ G.slots (disk_under old.journal) → TakesNothing old new
   still old new kept gateway halted slots = λ S refused h. record {
     counts = subst (λ (K : List Op). CountsAs S K) (sym kept) h.counts;
     quiet = λ runs. h.quiet (sym halted ∙ runs);
     images = λ honest.
-        at_gateway (gateway_of old.journal) (gateway_of new.journal) S refused (G.slots (disk_of new.journal)) gateway
-        (subst (λ (d : Slots). EachCrash (λ i. StandsFor (gateway_of old.journal) S refused i) d) (sym slots) (h.images honest));
+        at_gateway (gateway_of old.journal) (gateway_of new.journal) S refused (G.slots (disk_under new.journal)) gateway
+        (subst (λ (d : Slots). EachCrash (λ i. RecoversTo (gateway_of old.journal) S refused i) d) (sym slots) (h.images honest));
     begun = λ honest. subst (λ (d : Slots). EachCrash IsBegun d) (sym slots) (h.begun honest);
   }
 
@@ -287,7 +287,7 @@ module _ {D : Type 0} {G : Ghosts D} where
     counts = counts-join S old.kept [] new.kept h.counts kept;
     quiet = λ runs. refl;
     images = λ honest.
-        subst (λ (T : List Op). EachCrash (λ i. StandsFor (gateway_of new.journal) T [] i) (G.slots (disk_of new.journal))) (sym (append-nil S))
+        subst (λ (T : List Op). EachCrash (λ i. RecoversTo (gateway_of new.journal) T [] i) (G.slots (disk_under new.journal))) (sym (append-nil S))
         (untouched_images old.journal new.journal S [] u h.images honest);
     begun = untouched_begun old.journal new.journal u h.begun;
   }
@@ -305,10 +305,10 @@ module _ {D : Type 0} {G : Ghosts D} where
         counts = subst (λ (K : List Op). CountsAs S K) (sym kept) h.counts;
         quiet = λ _. none;
         images = λ honest.
-            at_gateway (gateway_of old.journal) (gateway_of new.journal) S refused (G.slots (disk_of new.journal)) w.gateway
-            (λ k l. opened (gateway_of old.journal) S refused base (after_crash k l (G.slots (disk_of new.journal))) (w.durable honest k l)
+            at_gateway (gateway_of old.journal) (gateway_of new.journal) S refused (G.slots (disk_under new.journal)) w.gateway
+            (λ k l. opened (gateway_of old.journal) S refused base (after_crash k l (G.slots (disk_under new.journal))) (w.durable honest k l)
             (base_stands S refused old.kept base (on_disk old) none held h.counts (before old S refused h honest)));
-        begun = λ honest. begun_all (gateway_of old.journal) (G.slots (disk_of new.journal)) base (w.durable honest);
+        begun = λ honest. begun_all (gateway_of old.journal) (G.slots (disk_under new.journal)) base (w.durable honest);
       }
 
   pub not_rewritten : (old new : State G) (base : List (List Op)) → IsHeld old.kept base → new.kept ≡ old.kept → IsNotRewritten old.journal base new.journal → TakesNothing old new
@@ -318,10 +318,10 @@ module _ {D : Type 0} {G : Ghosts D} where
         counts = subst (λ (K : List Op). CountsAs S K) (sym kept) h.counts;
         quiet = λ _. none;
         images = λ honest.
-            at_gateway (gateway_of old.journal) (gateway_of new.journal) S refused (G.slots (disk_of new.journal)) w.gateway
-            (λ k l. either_stands (gateway_of old.journal) S refused (on_disk old) base (after_crash k l (G.slots (disk_of new.journal))) (before old S refused h honest)
+            at_gateway (gateway_of old.journal) (gateway_of new.journal) S refused (G.slots (disk_under new.journal)) w.gateway
+            (λ k l. either_stands (gateway_of old.journal) S refused (on_disk old) base (after_crash k l (G.slots (disk_under new.journal))) (before old S refused h honest)
             (base_stands S refused old.kept base (on_disk old) none held h.counts (before old S refused h honest)) (w.torn honest k l));
-        begun = λ honest. begun_either (gateway_of old.journal) (G.slots (disk_of new.journal)) (on_disk old) base (w.torn honest);
+        begun = λ honest. begun_either (gateway_of old.journal) (G.slots (disk_under new.journal)) (on_disk old) base (w.torn honest);
       }
 
   pub reopened : (old new : State G) → IsReopened old new → TakesAgain old new
@@ -336,9 +336,9 @@ module _ {D : Type 0} {G : Ghosts D} where
     counts = subst (λ (K : List Op). CountsAs S K) (sym w.kept) h.counts;
     quiet = λ runs. h.quiet (still_runs refusal (is_halted new) (is_halted old) w.halts w.wanting runs);
     images = λ honest.
-        at_gateway (gateway_of old.journal) (gateway_of new.journal) S refused (G.slots (disk_of new.journal)) w.gateway
-        (stands_still (gateway_of old.journal) S refused (G.slots (disk_of old.journal)) (G.slots (disk_of new.journal)) (w.leaves honest) (h.begun honest) (h.images honest));
-    begun = λ honest. begun_still (gateway_of old.journal) (G.slots (disk_of old.journal)) (G.slots (disk_of new.journal)) (w.leaves honest) (h.begun honest);
+        at_gateway (gateway_of old.journal) (gateway_of new.journal) S refused (G.slots (disk_under new.journal)) w.gateway
+        (stands_still (gateway_of old.journal) S refused (G.slots (disk_under old.journal)) (G.slots (disk_under new.journal)) (w.leaves honest) (h.begun honest) (h.images honest));
+    begun = λ honest. begun_still (gateway_of old.journal) (G.slots (disk_under old.journal)) (G.slots (disk_under new.journal)) (w.leaves honest) (h.begun honest);
   }
 
   -- ---- calls

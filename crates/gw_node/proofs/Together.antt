@@ -8,11 +8,11 @@ use Rattle.rep_ops.specs.Making.{IsDeltaOf}
 use Rattle.sn_plan.specs.declared.plan.Plan.{Plan}
 use Rattle.sn_local.specs.Locals.{Local}
 use Rattle.jr_disk.specs.declared.disk.Disk.{Ghosts}
-use Rattle.jr_disk.specs.declared.disk.Plan.{Plan as Failure}
+use Rattle.jr_disk.specs.declared.disk.Failure.{Failure}
 use Rattle.jr_disk.specs.Disk.{Slots, Image, image, after_crash, EachCrash}
-use Rattle.jr_journal.specs.Arranged.{after_append, is_quiet}
+use Rattle.jr_journal.specs.Arranged.{after_append, misses_failure}
 use Rattle.jr_journal.specs.Crashes.{Opens}
-use Rattle.jr_journal.specs.Parts.{disk_of, gateway_of, slot_of}
+use Rattle.jr_journal.specs.Parts.{disk_under, gateway_of, slot_of}
 use Rattle.jr_journal.specs.Records.{written_all, records}
 use Rattle.gw_answer.specs.declared.out.Out.{Out}
 use Rattle.gw_answer.specs.declared.refusal.Refusal.{Refusal}
@@ -29,8 +29,8 @@ use Rattle.gw_node.specs.Failures.{failed, failed_all}
 use Rattle.gw_node.specs.Keeping.{Keeps}
 use Rattle.gw_node.specs.Parts.{State, is_halted, IsUntouched}
 use Rattle.gw_node.specs.Calls.{StepCall}
-use Rattle.gw_node.specs.Standing.{IsSynced, Lasts, Stands, IsForeseen, fated, LeadsTo, Agrees, AgreeInTurn, CanBeSaid, EventsOn}
-use Rattle.gw_node.specs.Taking.{on_disk, StandsFor, HasTaken}
+use Rattle.gw_node.specs.Standing.{IsSynced, Lasts, Represents, IsForeseen, with_failure, LeadsTo, CallAgrees, AgreeInTurn, CanBeSaid, EventsOn}
+use Rattle.gw_node.specs.Taking.{on_disk, RecoversTo, HasTaken}
 use Rattle.gw_node.specs.inner.Ahead.{MakesAhead, IsDoneAhead, StepAhead, WritesPlan}
 use Rattle.gw_node.specs.inner.Rows.{AreWritten, AreFailed, TurnAhead, BeginsRow, excused, EndedAs, IsRow, RowCall}
 use Rattle.gw_node.proofs.Failing.{failures_grow}
@@ -51,7 +51,7 @@ Rows calls answers before next made = Together before calls answers next made
 
 -- ---- one call by itself
 
-agrees_fated : (fate : Option Failure) (g : Gateway) (step : Step) → Agrees (fated fate g) step → Agrees g step
+agrees_fated : (fate : Option Failure) (g : Gateway) (step : Step) → CallAgrees (with_failure fate g) step → CallAgrees g step
 agrees_fated fate g (steps.Frame from bytes now) h = h
 agrees_fated fate g (steps.Take delta) h = h
 agrees_fated fate g (steps.Tick now) h = h
@@ -98,14 +98,14 @@ struck_all failure deltas g = record g { refused = deltas; drive = torn_all fail
 record FirstTorn {D : Type 0} {G : Ghosts D} (g : Gateway) (old : State G) (first : Step) (out excuse : Out) : Type 0 where
   delta : List Op
   puts : put_by first (Ok out) ≡ delta ∷ []
-  does : (failure : Failure) → StepOf (fated (Some failure) g) first (Err (refusals.Disk excuse)) (struck failure delta g) []
+  does : (failure : Failure) → StepOf (with_failure (Some failure) g) first (Err (refusals.Disk excuse)) (struck failure delta g) []
 
-module _ {D : Type 0} {G : Ghosts D} (g : Gateway) (old : State G) (s : Stands g old) where
+module _ {D : Type 0} {G : Ghosts D} (g : Gateway) (old : State G) (s : Represents g old) where
   -- ---- the first of a row by itself
 
   own_torn : (occasion : Occasion) (now : ℕ) (plan : Plan) (out excuse : Out) (mid : State G) → is_halted old ≡ false → WritesPlan old occasion now plan excuse → IsDoneAhead old plan out mid
       → (ops : List Op) (made : Option (List Op)) → plan.ops ≡ ops → out.made ≡ made → MakesAhead ops made old mid
-      → (delta : List Op) × (option_to_list out.made ≡ delta ∷ []) × ((failure : Failure) → OwnStep (fated (Some failure) g) occasion now (Err (refusals.Disk excuse)) (struck failure delta g) [])
+      → (delta : List Op) × (option_to_list out.made ≡ delta ∷ []) × ((failure : Failure) → OwnStep (with_failure (Some failure) g) occasion now (Err (refusals.Disk excuse)) (struck failure delta g) [])
   own_torn occasion now plan out excuse mid runs w done [] made ops is_made h = absurd (w.some ops)
   own_torn occasion now plan out excuse mid runs w done (op ∷ rest) None ops is_made h = absurd h
   own_torn occasion now plan out excuse mid runs w done (op ∷ rest) (Some delta) ops is_made (is_delta, fits, kept, writable) = (
@@ -165,7 +165,7 @@ module _ {D : Type 0} {G : Ghosts D} (g : Gateway) (old : State G) (s : Stands g
     turn : TurnAhead old (first ∷ done) (Ok row.out ∷ said) row.finished.after
     turn = (row.mid, begun_ahead old row.mid first row.out row.excuse row.begun, λ e. absurd cc, row.finished.turn)
 
-    here : IsAhead (fated None g) (fated None g) [] old old
+    here : IsAhead (with_failure None g) (with_failure None g) [] old old
     here = record {
       configured = s.configured;
       bound = s.bound;
@@ -178,8 +178,8 @@ module _ {D : Type 0} {G : Ghosts D} (g : Gateway) (old : State G) (s : Stands g
       refused = refl;
     }
 
-    led : AllLead (fated None g) (fated None g) [] old (first ∷ done) (Ok row.out ∷ said) row.finished.after
-    led = turn_leads (fated None g) (fated None g) [] old old row.finished.after here (goes g old s row.runs) refl (first ∷ done) (Ok row.out ∷ said) turn
+    led : AllLead (with_failure None g) (with_failure None g) [] old (first ∷ done) (Ok row.out ∷ said) row.finished.after
+    led = turn_leads (with_failure None g) (with_failure None g) [] old old row.finished.after here (goes g old s row.runs) refl (first ∷ done) (Ok row.out ∷ said) turn
 
     alone : FirstTorn g old first row.out row.excuse
     alone = first_torn first row.out row.excuse row.mid row.runs row.begun
@@ -191,7 +191,7 @@ module _ {D : Type 0} {G : Ghosts D} (g : Gateway) (old : State G) (s : Stands g
         let b = row.finished.same.journal in
         record { gateway = b.gateway ∙ a.gateway; slot = b.slot ∙ a.slot; generation = b.generation ∙ a.generation; halted = b.halted ∙ a.halted; disk = b.disk ∙ a.disk }
 
-    at_slots : G.honest → G.slots (disk_of row.finished.ahead.journal) ≡ g.drive.slots
+    at_slots : G.honest → G.slots (disk_under row.finished.ahead.journal) ≡ g.drive.slots
     at_slots honest = ap G.slots before.disk ∙ s.slots honest
 
     at_slot : slot_of row.finished.ahead.journal ≡ g.drive.slot
@@ -204,7 +204,7 @@ module _ {D : Type 0} {G : Ghosts D} (g : Gateway) (old : State G) (s : Stands g
     abbrev held : List (List Op)
     held = records g.config.gateway (image g.drive.slots)
 
-    read : gateway_of row.finished.ahead.journal ≡ g.config.gateway → G.honest → records (gateway_of row.finished.ahead.journal) (image (G.slots (disk_of row.finished.ahead.journal))) ≡ held
+    read : gateway_of row.finished.ahead.journal ≡ g.config.gateway → G.honest → records (gateway_of row.finished.ahead.journal) (image (G.slots (disk_under row.finished.ahead.journal))) ≡ held
     read e honest = λ i. records (e i) (image (at_slots honest i))
 
     stand_before : G.honest → Lasts g → StandFor g.taken [] held
@@ -212,32 +212,32 @@ module _ {D : Type 0} {G : Ghosts D} (g : Gateway) (old : State G) (s : Stands g
         let taken = to_taken g old s (goes g old s row.runs) honest l in
         let same : on_disk old ≡ held = λ i. records (s.numbered i) (image (s.slots honest i)) in
         subst (λ (ds : List (List Op)). StandFor g.taken [] ds) same
-        (records_stand (gateway_of old.journal) g.taken [] (image (G.slots (disk_of old.journal))) (stands_at (gateway_of old.journal) g.taken [] (G.slots (disk_of old.journal)) (taken.images honest)))
+        (records_stand (gateway_of old.journal) g.taken [] (image (G.slots (disk_under old.journal))) (stands_at (gateway_of old.journal) g.taken [] (G.slots (disk_under old.journal)) (taken.images honest)))
 
     -- the deltas are that of the first call and others
     at_least : deltas ≡ alone.delta ∷ put_by_all done said
     at_least = ap (λ (ds : List (List Op)). ds ++ put_by_all done said) alone.puts
 
-    looks : G.honest → IsForeseen g old → G.outlook (disk_of row.finished.ahead.journal) ≡ Some g.drive.plan
+    looks : G.honest → IsForeseen g old → G.outlook (disk_under row.finished.ahead.journal) ≡ Some g.drive.plan
     looks honest f = ap G.outlook before.disk ∙ f.plan
 
     -- ---- all of it was written
 
     module _ (kept : new.kept ≡ row.finished.ahead.kept) (local : new.local ≡ row.finished.ahead.local) (w : AreWritten row.finished.ahead.journal deltas new.journal) where
       next_slots : led.next.drive.slots ≡ after_append None g.drive.slots g.drive.slot (written_all deltas)
-      next_slots = ap (λ (d : Drive). d.slots) led.ahead.drive ∙ some_record deltas alone.delta (put_by_all done said) (fated None g).drive at_least
+      next_slots = ap (λ (d : Drive). d.slots) led.ahead.drive ∙ some_record deltas alone.delta (put_by_all done said) (with_failure None g).drive at_least
 
       next_plan : led.next.drive.plan ≡ None
-      next_plan = ap (λ (d : Drive). d.plan) led.ahead.drive ∙ records_plan deltas (fated None g).drive
+      next_plan = ap (λ (d : Drive). d.plan) led.ahead.drive ∙ records_plan deltas (with_failure None g).drive
 
-      written_stands : Stands led.next new
+      written_stands : Represents led.next new
       written_stands = record {
         configured = row.finished.ended.config ∙ row.finished.same.config ∙ led.ahead.configured;
         numbered = w.gateway ∙ at_gateway ∙ sym (ap (λ c. c.gateway) led.ahead.config);
         bound = local ∙ row.finished.same.local ∙ led.ahead.bound;
         keeps = subst (λ (K : List Op). Keeps led.next.taken K) (sym (kept ∙ row.finished.same.kept)) led.ahead.keeps;
-        slot = w.slot ∙ at_slot ∙ sym (ap (λ (d : Drive). d.slot) led.ahead.drive ∙ records_slot deltas (fated None g).drive);
-        halted = w.goes_on ∙ sym (ap (λ (d : Drive). d.halted) led.ahead.drive ∙ records_halted deltas (fated None g).drive ∙ goes g old s row.runs);
+        slot = w.slot ∙ at_slot ∙ sym (ap (λ (d : Drive). d.slot) led.ahead.drive ∙ records_slot deltas (with_failure None g).drive);
+        halted = w.goes_on ∙ sym (ap (λ (d : Drive). d.halted) led.ahead.drive ∙ records_halted deltas (with_failure None g).drive ∙ goes g old s row.runs);
         slots = λ honest. w.exact honest ∙ (λ i. after_append None (at_slots honest i) (at_slot i) (written_all deltas)) ∙ sym next_slots;
       }
 
@@ -250,25 +250,25 @@ module _ {D : Type 0} {G : Ghosts D} (g : Gateway) (old : State G) (s : Stands g
 
       all_held : G.honest → Lasts g → AreNext g.taken deltas → HasTaken led.next.taken [] new
       all_held honest l due =
-          let recs = records (gateway_of row.finished.ahead.journal) (image (G.slots (disk_of row.finished.ahead.journal))) in
+          let recs = records (gateway_of row.finished.ahead.journal) (image (G.slots (disk_under row.finished.ahead.journal))) in
           let stand : StandFor led.next.taken [] (recs ++ deltas) =
           subst (λ (ds : List (List Op)). StandFor led.next.taken [] (ds ++ deltas)) (sym (read at_gateway honest)) (all_stand honest l due) in
           record {
             counts = written_stands.keeps.counts;
             quiet = λ _. refl;
             images = λ _.
-                subst (λ (n : ℕ). EachCrash (λ i. StandsFor n led.next.taken [] i) (G.slots (disk_of new.journal))) (sym w.gateway)
-                (λ k m. opened (gateway_of row.finished.ahead.journal) led.next.taken [] (recs ++ deltas) (after_crash k m (G.slots (disk_of new.journal))) (w.durable honest k m) stand);
+                subst (λ (n : ℕ). EachCrash (λ i. RecoversTo n led.next.taken [] i) (G.slots (disk_under new.journal))) (sym w.gateway)
+                (λ k m. opened (gateway_of row.finished.ahead.journal) led.next.taken [] (recs ++ deltas) (after_crash k m (G.slots (disk_under new.journal))) (w.durable honest k m) stand);
             begun = λ _ k m. (w.durable honest k m).2;
           }
 
-      written_row : answers ≡ Ok row.out ∷ said → LeadsTo (λ before next made. Rows (first ∷ done) answers before next made) (AgreeInTurn (fated None g) (first ∷ done)) g old new
+      written_row : answers ≡ Ok row.out ∷ said → LeadsTo (λ before next made. Rows (first ∷ done) answers before next made) (AgreeInTurn (with_failure None g) (first ∷ done)) g old new
       written_row are = record {
         fate = None;
         next = led.next;
         made = led.made;
         happens = inl (
-          subst (λ (xs : Answers). InTurn (fated None g) (first ∷ done) xs led.next led.made) (sym are) (in_turn (fated None g) led.next (first ∷ done) (Ok row.out ∷ said) led.made led.does),
+          subst (λ (xs : Answers). InTurn (with_failure None g) (first ∷ done) xs led.next led.made) (sym are) (in_turn (with_failure None g) led.next (first ∷ done) (Ok row.out ∷ said) led.made led.does),
           subst FailsLast (sym are) (turn_last old row.finished.after (first ∷ done) (Ok row.out ∷ said) turn),
         );
         stands = written_stands;
@@ -277,7 +277,7 @@ module _ {D : Type 0} {G : Ghosts D} (g : Gateway) (old : State G) (s : Stands g
               none.0,
               record {
                 plan = none.1 ∙ ap (λ (p : Option Failure). Some p) (sym next_plan);
-                quiet = subst (λ (p : Option Failure). IsTrue (is_quiet (Some p) false)) (sym next_plan) refl;
+                quiet = subst (λ (p : Option Failure). IsTrue (misses_failure (Some p) false)) (sym next_plan) refl;
               },
             );
         lasts = λ agrees honest l.
@@ -289,16 +289,16 @@ module _ {D : Type 0} {G : Ghosts D} (g : Gateway) (old : State G) (s : Stands g
     -- ---- the disk failed
 
     module _ (kept : new.kept ≡ old.kept) (local : new.local ≡ old.local) (w : AreFailed row.finished.ahead.journal deltas new.journal) where
-      fate : Came G.honest (G.starved (disk_of new.journal)) (G.outlook (disk_of row.finished.ahead.journal)) (G.slots (disk_of row.finished.ahead.journal)) (slot_of row.finished.ahead.journal) (written_all deltas) (G.slots (disk_of new.journal)) (G.outlook (disk_of new.journal))
+      fate : Came G.honest (G.starved (disk_under new.journal)) (G.outlook (disk_under row.finished.ahead.journal)) (G.slots (disk_under row.finished.ahead.journal)) (slot_of row.finished.ahead.journal) (written_all deltas) (G.slots (disk_under new.journal)) (G.outlook (disk_under new.journal))
       fate = came G.honest _ _ _ _ _ _ _ w.struck w.known
 
       abbrev next : Gateway
       next = struck_all fate.failure deltas g
 
-      now_slots : G.honest → G.slots (disk_of new.journal) ≡ next.drive.slots
+      now_slots : G.honest → G.slots (disk_under new.journal) ≡ next.drive.slots
       now_slots honest = fate.slots honest ∙ (λ i. after_append (Some fate.failure) (at_slots honest i) (at_slot i) (written_all deltas))
 
-      torn_stands : Stands next new
+      torn_stands : Represents next new
       torn_stands = record {
         configured = row.finished.ended.config ∙ row.finished.same.config ∙ led.ahead.configured ∙ led.ahead.config;
         numbered = w.gateway ∙ at_gateway;
@@ -313,19 +313,19 @@ module _ {D : Type 0} {G : Ghosts D} (g : Gateway) (old : State G) (s : Stands g
         left_before : records g.config.gateway (left_by 0 next.drive) ≡ held
         left_before = ap (λ (i : Image). records g.config.gateway i) (left_torn fate.failure g.drive.slots g.drive.slot (written_all deltas) (l.synced (goes g old s row.runs)))
 
-        torn_image : (i : Image) → (n : ℕ) × Opens g.config.gateway (held ++ take n deltas) i → StandsFor g.config.gateway (with_refused (more_records g.config.gateway next.drive i) g.taken deltas) [] i
+        torn_image : (i : Image) → (n : ℕ) × Opens g.config.gateway (held ++ take n deltas) i → RecoversTo g.config.gateway (with_refused (more_records g.config.gateway next.drive i) g.taken deltas) [] i
         torn_image i (n, opens) =
             let count : length (records g.config.gateway i) ≡ length (records g.config.gateway (left_by 0 next.drive)) + length (take n deltas) =
             ap length opens.0 ∙ length-append held (take n deltas) ∙ ap (λ (ds : List (List Op)). length ds + length (take n deltas)) (sym left_before) in
             let many : more_records g.config.gateway next.drive i ≡ length (take n deltas) = so_many_above _ _ _ count in
-            subst (λ (S : List Op). StandsFor g.config.gateway S [] i) (sym (ap (λ (m : ℕ). with_refused m g.taken deltas) many ∙ so_many n g.taken deltas))
+            subst (λ (S : List Op). RecoversTo g.config.gateway S [] i) (sym (ap (λ (m : ℕ). with_refused m g.taken deltas) many ∙ so_many n g.taken deltas))
             (opened g.config.gateway (with_refused n g.taken deltas) [] (held ++ take n deltas) i opens (first_stand n g.taken deltas held due (stand_before honest l)))
 
         left : EachCrash (λ i. (n : ℕ) × Opens g.config.gateway (held ++ take n deltas) i) next.drive.slots
         left =
             subst (λ (d : Slots). EachCrash (λ i. (n : ℕ) × Opens g.config.gateway (held ++ take n deltas) i) d) (now_slots honest)
-            (subst (λ (ds : List (List Op)). EachCrash (λ i. (n : ℕ) × Opens g.config.gateway (ds ++ take n deltas) i) (G.slots (disk_of new.journal))) (read at_gateway honest)
-            (subst (λ (b : ℕ). EachCrash (λ i. (n : ℕ) × Opens b (records (gateway_of row.finished.ahead.journal) (image (G.slots (disk_of row.finished.ahead.journal))) ++ take n deltas) i) (G.slots (disk_of new.journal))) at_gateway (w.torn honest)))
+            (subst (λ (ds : List (List Op)). EachCrash (λ i. (n : ℕ) × Opens g.config.gateway (ds ++ take n deltas) i) (G.slots (disk_under new.journal))) (read at_gateway honest)
+            (subst (λ (b : ℕ). EachCrash (λ i. (n : ℕ) × Opens b (records (gateway_of row.finished.ahead.journal) (image (G.slots (disk_under row.finished.ahead.journal))) ++ take n deltas) i) (G.slots (disk_under new.journal))) at_gateway (w.torn honest)))
 
         torn_lasts : Lasts next
         torn_lasts = record {
@@ -335,7 +335,7 @@ module _ {D : Type 0} {G : Ghosts D} (g : Gateway) (old : State G) (s : Stands g
           begun = λ k m. (left k m).1.2;
         }
 
-      are_torn : AreTorn (fated (Some fate.failure) g) first (Err (refusals.Disk row.excuse)) done next
+      are_torn : AreTorn (with_failure (Some fate.failure) g) first (Err (refusals.Disk row.excuse)) done next
       are_torn = record {
         writing = all_write old row.finished.after (first ∷ done) (Ok row.out ∷ said) turn;
         excuse = row.excuse;
@@ -353,7 +353,7 @@ module _ {D : Type 0} {G : Ghosts D} (g : Gateway) (old : State G) (s : Stands g
         halted = refl;
       }
 
-      torn_row : answers ≡ excused row.excuse (Ok row.out ∷ said) → LeadsTo (λ before next made. Rows (first ∷ done) answers before next made) (AgreeInTurn (fated None g) (first ∷ done)) g old new
+      torn_row : answers ≡ excused row.excuse (Ok row.out ∷ said) → LeadsTo (λ before next made. Rows (first ∷ done) answers before next made) (AgreeInTurn (with_failure None g) (first ∷ done)) g old new
       torn_row are = record {
         fate = Some fate.failure;
         next = next;
@@ -364,7 +364,7 @@ module _ {D : Type 0} {G : Ghosts D} (g : Gateway) (old : State G) (s : Stands g
           call = first;
           answer = Err (refusals.Disk row.excuse);
           behind = done;
-          mid = fated (Some fate.failure) g;
+          mid = with_failure (Some fate.failure) g;
           calls_are = refl;
           answers_are = are ∙ ap (λ (xs : Answers). Err (refusals.Disk row.excuse) ∷ xs) (all_halted row.mid row.finished.after done said row.finished.turn);
           quiet = refl;
@@ -376,7 +376,7 @@ module _ {D : Type 0} {G : Ghosts D} (g : Gateway) (old : State G) (s : Stands g
         lasts = λ agrees honest l. torn_lasts honest l (led.due agrees);
       }
 
-    row_leads : LeadsTo (λ before next made. Rows (first ∷ done) answers before next made) (AgreeInTurn (fated None g) (first ∷ done)) g old new
+    row_leads : LeadsTo (λ before next made. Rows (first ∷ done) answers before next made) (AgreeInTurn (with_failure None g) (first ∷ done)) g old new
     row_leads =
         elim row.finished.ended.written [
           | inl h ↦ written_row h.1 h.2 h.3 h.0
@@ -384,14 +384,14 @@ module _ {D : Type 0} {G : Ghosts D} (g : Gateway) (old : State G) (s : Stands g
         ]
 
   alone_leads : (first : Step) (answer : Result Out Refusal) (new : State G) → CanBeSaid g old first answer new → StepCall old first answer new
-      → LeadsTo (λ before next made. Rows (first ∷ []) (answer ∷ []) before next made) (AgreeInTurn (fated None g) (first ∷ [])) g old new
+      → LeadsTo (λ before next made. Rows (first ∷ []) (answer ∷ []) before next made) (AgreeInTurn (with_failure None g) (first ∷ [])) g old new
   alone_leads first answer new can h =
       let l = step_leads g old s new first answer can h in
       record {
         fate = l.fate;
         next = l.next;
         made = l.made;
-        happens = one_together (fated l.fate g) l.next first answer l.made l.happens;
+        happens = one_together (with_failure l.fate g) l.next first answer l.made l.happens;
         stands = l.stands;
         foreseen = l.foreseen;
         lasts = λ agrees. l.lasts (agrees_fated None g first agrees.0);
@@ -457,10 +457,10 @@ module _ {D : Type 0} {G : Ghosts D} (old : State G) (first : Step) (rest : List
       let few = few_of row.finished.count rest in
       (omega (arith, many), omega (arith, many, few))
 
-  ended_failed : (ahead : State G) (deltas : List (List Op)) (excuse out : Out) (said : Answers) → failed_all said ≡ 0 → disk_of ahead.journal ≡ disk_of old.journal → EndedAs ahead old.kept old.local deltas excuse (Ok out ∷ said) answers new
-      → G.failures (disk_of old.journal) + failed_all answers ≤ G.failures (disk_of new.journal)
+  ended_failed : (ahead : State G) (deltas : List (List Op)) (excuse out : Out) (said : Answers) → failed_all said ≡ 0 → disk_under ahead.journal ≡ disk_under old.journal → EndedAs ahead old.kept old.local deltas excuse (Ok out ∷ said) answers new
+      → G.failures (disk_under old.journal) + failed_all answers ≤ G.failures (disk_under new.journal)
   ended_failed ahead deltas excuse out said none disk h =
-      let same : G.failures (disk_of ahead.journal) ≡ G.failures (disk_of old.journal) = ap G.failures disk in
+      let same : G.failures (disk_under ahead.journal) ≡ G.failures (disk_under old.journal) = ap G.failures disk in
       elim h.written [
         | inl k ↦
             let all : failed_all answers ≡ 0 = ap failed_all k.0 ∙ (zero_more (failed_all said) ∙ none) in
@@ -472,7 +472,7 @@ module _ {D : Type 0} {G : Ghosts D} (old : State G) (first : Step) (rest : List
             omega (arith, same, one, cause)
       ]
 
-  pub row_failures : RowCall old first rest answers new → G.failures (disk_of old.journal) + failed_all answers ≤ G.failures (disk_of new.journal)
+  pub row_failures : RowCall old first rest answers new → G.failures (disk_under old.journal) + failed_all answers ≤ G.failures (disk_under new.journal)
   row_failures (inl h) =
       let grow = failures_grow old first h.answer new h.call in
       let all : failed_all answers ≡ failed h.answer + 0 = ap failed_all h.answers_are in

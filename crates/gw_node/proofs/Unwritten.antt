@@ -30,22 +30,22 @@ use Rattle.gw_node.specs.Calls.{OwnCall, TakeCall, StepCall, IsDone, IsNoted}
 use Rattle.gw_node.specs.declared.looking.Left.{Left}
 use Rattle.gw_node.specs.declared.looking.Left.TheVariants.{Told, Writes, Alone}
 use Rattle.gw_node.specs.inner.Handling.{IsNoFrameBy, IsNoPlan, HaveNoDelta, CarriedOut, planned_for, ticked}
-use Rattle.gw_node.specs.inner.Ahead.{MakesAhead, IsDoneAhead, OwnAhead, TakeAhead, StepAhead, CarriedAhead, NotedAs, made_by, WritesPlan, IsWriter, LooksFor, LooksAt, IsLooked}
+use Rattle.gw_node.specs.inner.Ahead.{MakesAhead, IsDoneAhead, OwnAhead, TakeAhead, StepAhead, CarriedAhead, NotedAs, made_in, WritesPlan, IsWriter, LooksFor, LooksAt, IsLooked}
 use Rattle.gw_node.specs.inner.Rows.{IsFor, CarriedAlong, WentAhead, made_if, put_if, BeginsRow}
 
 -- ---- what a call puts into the journal
 
-pub frame_puts : (from : Addr) (bytes : List ℕ) (now : ℕ) (reply : Result Out Refusal) → made_by reply ≡ put_by (steps.Frame from bytes now) reply
+pub frame_puts : (from : Addr) (bytes : List ℕ) (now : ℕ) (reply : Result Out Refusal) → made_in reply ≡ put_by (steps.Frame from bytes now) reply
 frame_puts from bytes now (Ok out) = refl
 frame_puts from bytes now (Err refusal) = refl
 
-pub tick_puts : (now : ℕ) (reply : Result Out Refusal) → made_by reply ≡ put_by (steps.Tick now) reply
+pub tick_puts : (now : ℕ) (reply : Result Out Refusal) → made_in reply ≡ put_by (steps.Tick now) reply
 tick_puts now (Ok out) = refl
 tick_puts now (Err refusal) = refl
 
-pub made_for : (reply : Result Out Refusal) (result : Option (Result Out Refusal)) → IsFor reply result → made_by reply ≡ made_if result
-made_for reply None is = ap (λ (r : Result Out Refusal). made_by r) is
-made_for reply (Some given) is = ap (λ (r : Result Out Refusal). made_by r) (sym is.0)
+pub made_for : (reply : Result Out Refusal) (result : Option (Result Out Refusal)) → IsFor reply result → made_in reply ≡ made_if result
+made_for reply None is = ap (λ (r : Result Out Refusal). made_in r) is
+made_for reply (Some given) is = ap (λ (r : Result Out Refusal). made_in r) (sym is.0)
 
 puts_nothing : (step : Step) → put_by step (Err refusals.Memory) ≡ []
 puts_nothing (steps.Frame from bytes now) = refl
@@ -166,7 +166,7 @@ module _ {D : Type 0} {G : Ghosts D} where
         sends = e ∙ ap only_sends (sym said);
       })
 
-  own_noted : (old new : State G) (occasion : Occasion) (now : ℕ) (plan : Plan) (reply : Result Out Refusal) → IsPlanFor old occasion now (Some plan) → NotedAs old plan reply new → OwnAhead old occasion now reply new × (made_by reply ≡ [])
+  own_noted : (old new : State G) (occasion : Occasion) (now : ℕ) (plan : Plan) (reply : Result Out Refusal) → IsPlanFor old occasion now (Some plan) → NotedAs old plan reply new → OwnAhead old occasion now reply new × (made_in reply ≡ [])
   own_noted old new occasion now plan (Ok out) is_plan h = ((plan, is_plan, h.0), ap (λ (m : Option (List Op)). option_to_list m) h.1)
   own_noted old new occasion now plan (Err refusals.Memory) is_plan h = (h, refl)
   own_noted old new occasion now plan (Err refusals.Halted) is_plan h = absurd h
@@ -261,7 +261,7 @@ module _ {D : Type 0} {G : Ghosts D} where
   writer_sends old steps.Compact plan excuse w = absurd w
   writer_sends old steps.Reopen plan excuse w = absurd w
 
-  pub writer_puts : (old : State G) (step : Step) (plan : Plan) (excuse : Out) (reply : Result Out Refusal) → IsWriter old step plan excuse → made_by reply ≡ put_by step reply
+  pub writer_puts : (old : State G) (step : Step) (plan : Plan) (excuse : Out) (reply : Result Out Refusal) → IsWriter old step plan excuse → made_in reply ≡ put_by step reply
   writer_puts old (steps.Frame from bytes now) plan excuse reply w = frame_puts from bytes now reply
   writer_puts old (steps.Tick now) plan excuse reply w = tick_puts now reply
   writer_puts old (steps.Take delta) plan excuse reply w = absurd w
@@ -353,7 +353,7 @@ module _ {D : Type 0} {G : Ghosts D} where
   still_made old new (op ∷ ops) None h none u = absurd h
   still_made old new (op ∷ ops) (Some delta) h none u = absurd cc
 
-  own_told : (old new : State G) (occasion : Occasion) (now : ℕ) (reply : Result Out Refusal) → is_halted old ≡ false → OwnAhead old occasion now reply new → made_by reply ≡ [] → OwnCall old occasion now reply new
+  own_told : (old new : State G) (occasion : Occasion) (now : ℕ) (reply : Result Out Refusal) → is_halted old ≡ false → OwnAhead old occasion now reply new → made_in reply ≡ [] → OwnCall old occasion now reply new
   own_told old new occasion now (Ok out) runs (plan, is_plan, h) none = (
     runs,
     (

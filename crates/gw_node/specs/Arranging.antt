@@ -2,7 +2,7 @@
 use Rattle.std.specs.Prelude.{◌≡◌, ℕ, Bool}
 use Rattle.jr_disk.specs.declared.disk.Disk.{Ghosts}
 use Rattle.jr_disk.specs.Memory.{MemoryState, failing}
-use Rattle.jr_journal.specs.Parts.{disk_of, gateway_of, slot_of, generation_of}
+use Rattle.jr_journal.specs.Parts.{disk_under, gateway_of, slot_of, generation_of}
 use Rattle.gw_node.specs.Parts.{State, is_halted}
 
 -- the next append stops after so many bytes, or its sync fails; nothing else changes
@@ -16,4 +16,4 @@ pub record Arranges {G : Ghosts MemoryState} (bytes : ℕ) (sync : Bool)
   pub slot : slot_of new.journal ≡ slot_of old.journal
   pub generation : generation_of new.journal ≡ generation_of old.journal
   pub halted : is_halted new ≡ is_halted old
-  pub disk : disk_of new.journal ≡ failing bytes sync (disk_of old.journal)
+  pub disk : disk_under new.journal ≡ failing bytes sync (disk_under old.journal)

@@ -3,14 +3,14 @@
 use Rattle.std.specs.Prelude.{◌≡◌, ◌≢◌, ◌⊎◌, ◌<◌, ℕ, true, false, length, if◌then◌else◌, List, [], ◌∷◌, ◌++◌, Some, None, Result, Ok, Err}
 use Rattle.rep_op.specs.declared.op.Op.{Op}
 use Rattle.rep_ops.specs.Deltas.{IsDelta}
-use Rattle.rep_ops.specs.Making.{AreApart, IsDeltaOf}
+use Rattle.rep_ops.specs.Making.{HaveOwnNames, IsDeltaOf}
 use Rattle.rep_model.specs.Keep.{IsKeptOf}
 use Rattle.rep_model.specs.Held.{IsHeld}
 use Rattle.rep_model.specs.Taking.{Fits}
-use Rattle.rep_ops.specs.Spelling.{max_octets, IsWithinLimit as IsDeltaWithinLimit}
+use Rattle.rep_ops.specs.Spelling.{max_octets, IsDeltaWithinLimit}
 use Rattle.rep_digest.specs.Digests.{Digested, digest}
 use Rattle.rep_answer.specs.Answers.{IsAnswer}
-use Rattle.rep_digest.specs.Spelling.{spelling, IsWithinLimit}
+use Rattle.rep_digest.specs.Spelling.{digest_spelling, IsDigestWithinLimit}
 use Rattle.sn_plan.specs.declared.plan.Plan.{Plan}
 use Rattle.sn_local.specs.Seen.{seen_of}
 use Rattle.sn_local.specs.Locals.{after_all, owned}
@@ -27,7 +27,7 @@ use Rattle.gw_answer.specs.declared.step.Step.TheVariants as steps
 use Rattle.gw_event.specs.Occasions.{Occasion, Datagram, Clock, IsNoFrame}
 use Rattle.gw_node.specs.Parts.{State, is_halted, IsUnchanged, IsUntouched}
 use Rattle.gw_answer.specs.Answers.{only_sends}
-use Rattle.gw_node.specs.Writing.{IsWritten, IsFailed, IsRewritten, IsNotRewritten, IsNumbered}
+use Rattle.gw_node.specs.Writing.{IsWritten, IsFailed, IsRewritten, IsNotRewritten, HasReadGeneration}
 use Rattle.gw_event.specs.Excuses.{IsExcuse}
 use Rattle.gw_event.specs.Event.{shows}
 use Rattle.gw_node.specs.Plans.{IsPlanFor, IsMisfit, MakeNoDelta, Makes}
@@ -41,7 +41,7 @@ pub record IsDone {D : Type 0} {G : Ghosts D} (old : State G) (plan : Plan) (out
   pub config : new.config ≡ old.config
   pub records : new.records ≡ old.records
   pub local : new.local ≡ after_all old.local plan.local
-  pub apart : AreApart plan.ops
+  pub apart : HaveOwnNames plan.ops
   pub made : Makes plan.ops out.made old new
   pub answer : out ≡ record (only_sends plan.sends) { made = out.made }
 
@@ -54,7 +54,7 @@ pub record IsGivenUp {D : Type 0} {G : Ghosts D} (old : State G) (plan : Plan) (
   pub records : new.records ≡ old.records
   pub kept : new.kept ≡ old.kept
   pub local : new.local ≡ old.local
-  pub apart : AreApart plan.ops
+  pub apart : HaveOwnNames plan.ops
   pub delta : List Op
   pub is_delta : IsDeltaOf plan.ops delta
   pub limit : IsDeltaWithinLimit delta
@@ -139,11 +139,9 @@ TakeCall old delta (Err refusals.Full) new =
 TakeCall old delta (Err (refusals.Disk excuse)) new =
     (is_halted old ≡ false) × (excuse ≡ only_sends []) × IsLeft old delta new
 TakeCall old delta (Err refusals.Memory) new = IsUnchanged old new
-TakeCall old delta (Err (refusals.Frame fault)) new = ⊥
-TakeCall old delta (Err refusals.Exhausted) new = ⊥
-TakeCall old delta (Err (refusals.Journal fault)) new = ⊥
 TakeCall old delta (Ok out) new =
     (is_halted old ≡ false) × (out ≡ only_sends []) × IsTaken old delta new
+TakeCall old delta answer new = ⊥
 
 -- ---- views
 
@@ -152,13 +150,7 @@ abbrev pub ViewCall : {D : Type 0} {G : Ghosts D} → State G → List ℕ → R
     → Type 0
 ViewCall old client (Ok out) new = (out ≡ shows old.kept client) × IsUnchanged old new
 ViewCall old client (Err refusals.Memory) new = IsUnchanged old new
-ViewCall old client (Err refusals.Halted) new = ⊥
-ViewCall old client (Err (refusals.Frame fault)) new = ⊥
-ViewCall old client (Err (refusals.Disk excuse)) new = ⊥
-ViewCall old client (Err (refusals.Conflict of)) new = ⊥
-ViewCall old client (Err refusals.Full) new = ⊥
-ViewCall old client (Err refusals.Exhausted) new = ⊥
-ViewCall old client (Err (refusals.Journal fault)) new = ⊥
+ViewCall old client answer new = ⊥
 
 -- ---- digests and answers
 
@@ -167,17 +159,12 @@ ViewCall old client (Err (refusals.Journal fault)) new = ⊥
 abbrev pub DigestCall : {D : Type 0} {G : Ghosts D} → State G → Result Out Refusal → State G
     → Type 0
 DigestCall old (Ok out) new =
-    IsWithinLimit (digest old.kept)
+    IsDigestWithinLimit (digest old.kept)
     × (out ≡ record (only_sends []) { digest = Some (digest old.kept) }) × IsUnchanged old new
 DigestCall old (Err refusals.Full) new =
-    (max_octets < length (spelling (digest old.kept))) × IsUnchanged old new
+    (max_octets < length (digest_spelling (digest old.kept))) × IsUnchanged old new
 DigestCall old (Err refusals.Memory) new = IsUnchanged old new
-DigestCall old (Err refusals.Halted) new = ⊥
-DigestCall old (Err (refusals.Frame fault)) new = ⊥
-DigestCall old (Err (refusals.Disk excuse)) new = ⊥
-DigestCall old (Err (refusals.Conflict of)) new = ⊥
-DigestCall old (Err refusals.Exhausted) new = ⊥
-DigestCall old (Err (refusals.Journal fault)) new = ⊥
+DigestCall old answer new = ⊥
 
 -- A gateway asks for what its digest does not cover of what must be kept; a halted node answers
 -- too.
@@ -187,13 +174,7 @@ AnswerCall old asked (Ok out) new =
     IsAnswer asked old.kept out.answer × (out ≡ record (only_sends []) { answer = out.answer })
     × IsUnchanged old new
 AnswerCall old asked (Err refusals.Memory) new = IsUnchanged old new
-AnswerCall old asked (Err refusals.Full) new = ⊥
-AnswerCall old asked (Err refusals.Halted) new = ⊥
-AnswerCall old asked (Err (refusals.Frame fault)) new = ⊥
-AnswerCall old asked (Err (refusals.Disk excuse)) new = ⊥
-AnswerCall old asked (Err (refusals.Conflict of)) new = ⊥
-AnswerCall old asked (Err refusals.Exhausted) new = ⊥
-AnswerCall old asked (Err (refusals.Journal fault)) new = ⊥
+AnswerCall old asked answer new = ⊥
 
 -- ---- compactions
 
@@ -224,20 +205,14 @@ abbrev pub CompactCall : {D : Type 0} {G : Ghosts D} → State G → Result Out 
     → Type 0
 CompactCall old (Err refusals.Halted) new = (is_halted old ≡ true) × IsUnchanged old new
 CompactCall old (Err (refusals.Journal journal_faults.Foreign)) new =
-    (is_halted old ≡ false) × (generation_of old.journal ≡ last_generation) × IsNumbered old.journal
+    (is_halted old ≡ false) × (generation_of old.journal ≡ last_generation)
+    × HasReadGeneration old.journal
     × IsUnchanged old new
-CompactCall old (Err (refusals.Journal journal_faults.Disk)) new = ⊥
-CompactCall old (Err (refusals.Journal journal_faults.Halted)) new = ⊥
-CompactCall old (Err (refusals.Journal journal_faults.Memory)) new = ⊥
-CompactCall old (Err (refusals.Journal (journal_faults.BadRecord slot at))) new = ⊥
 CompactCall old (Err (refusals.Disk excuse)) new =
     (is_halted old ≡ false) × (excuse ≡ only_sends []) × IsNotCompacted old new
 CompactCall old (Err refusals.Memory) new = IsUnchanged old new
-CompactCall old (Err (refusals.Frame fault)) new = ⊥
-CompactCall old (Err (refusals.Conflict client)) new = ⊥
-CompactCall old (Err refusals.Full) new = ⊥
-CompactCall old (Err refusals.Exhausted) new = ⊥
 CompactCall old (Ok out) new = (is_halted old ≡ false) × (out ≡ only_sends []) × IsCompacted old new
+CompactCall old answer new = ⊥
 
 -- ---- steps
 

@@ -43,13 +43,7 @@ abbrev pub CarriesOn : {D : Type 0} {G : Ghosts D} → State G → List Op → R
     → State G → Type 0
 CarriesOn old delta (Ok out) new = TakesMore old delta new
 CarriesOn old delta (Err (refusals.Disk excuse)) new = TakesNoMore old delta new
-CarriesOn old delta (Err (refusals.Frame fault)) new = TakesNothing old new
-CarriesOn old delta (Err refusals.Halted) new = TakesNothing old new
-CarriesOn old delta (Err (refusals.Conflict client)) new = TakesNothing old new
-CarriesOn old delta (Err refusals.Full) new = TakesNothing old new
-CarriesOn old delta (Err refusals.Exhausted) new = TakesNothing old new
-CarriesOn old delta (Err (refusals.Journal fault)) new = TakesNothing old new
-CarriesOn old delta (Err refusals.Memory) new = TakesNothing old new
+CarriesOn old delta answer new = TakesNothing old new
 
 -- Which set a node has taken after a datagram or a tick: with what it made. If the journal could
 -- not be written, it is as before, and the delta of the plan was refused.
@@ -59,13 +53,7 @@ OwnCarriesOn old occasion now (Ok out) new = TakesMore old (unwrap_or out.made [
 OwnCarriesOn old occasion now (Err (refusals.Disk excuse)) new =
     (plan : Plan) × IsPlanFor old occasion now (Some plan)
     × ((delta : List Op) × IsDeltaOf plan.ops delta × TakesNoMore old delta new)
-OwnCarriesOn old occasion now (Err (refusals.Frame fault)) new = TakesNothing old new
-OwnCarriesOn old occasion now (Err refusals.Halted) new = TakesNothing old new
-OwnCarriesOn old occasion now (Err (refusals.Conflict client)) new = TakesNothing old new
-OwnCarriesOn old occasion now (Err refusals.Full) new = TakesNothing old new
-OwnCarriesOn old occasion now (Err refusals.Exhausted) new = TakesNothing old new
-OwnCarriesOn old occasion now (Err (refusals.Journal fault)) new = TakesNothing old new
-OwnCarriesOn old occasion now (Err refusals.Memory) new = TakesNothing old new
+OwnCarriesOn old occasion now answer new = TakesNothing old new
 
 -- which set a node has taken after a reopening: with what was read; if the reopening was refused,
 -- as before
@@ -81,8 +69,5 @@ StepCarriesOn old (steps.Frame from bytes now) answer new =
     OwnCarriesOn old (Datagram from bytes) now answer new
 StepCarriesOn old (steps.Take delta) answer new = CarriesOn old delta answer new
 StepCarriesOn old (steps.Tick now) answer new = OwnCarriesOn old Clock now answer new
-StepCarriesOn old (steps.View client) answer new = TakesNothing old new
-StepCarriesOn old steps.Digest answer new = TakesNothing old new
-StepCarriesOn old (steps.Answer asked) answer new = TakesNothing old new
-StepCarriesOn old steps.Compact answer new = TakesNothing old new
 StepCarriesOn old steps.Reopen answer new = ReopenCarriesOn old answer new
+StepCarriesOn old step answer new = TakesNothing old new

@@ -11,9 +11,9 @@ use Rattle.jr_journal.specs.declared.fault.JournalFault.TheVariants as journal_f
 use Rattle.jr_journal.specs.Records.{records}
 use Rattle.jr_journal.specs.Faults.{is_fresh, fault_of}
 use Rattle.jr_journal.specs.Crashes.{Leaves, recovered, LeavesNoMore}
-use Rattle.jr_journal.specs.Arranged.{is_quiet}
+use Rattle.jr_journal.specs.Arranged.{misses_failure}
 use Rattle.jr_journal.specs.Opening.{synced_slots, slot_read, generation_read}
-use Rattle.jr_journal.specs.Parts.{disk_of, gateway_of, slot_of, generation_of}
+use Rattle.jr_journal.specs.Parts.{disk_under, gateway_of, slot_of, generation_of}
 use Rattle.gw_answer.specs.declared.out.Out.{Out}
 use Rattle.gw_answer.specs.declared.refusal.Refusal.{Refusal}
 use Rattle.gw_answer.specs.declared.refusal.Refusal.TheVariants as refusals
@@ -54,36 +54,23 @@ IsOpenFault gateway i (refusals.Conflict client) =
 IsOpenFault gateway i refusals.Full = HasMisfit (records gateway i) refusals.Full
 IsOpenFault gateway i (refusals.Disk excuse) = excuse ≡ only_sends []
 IsOpenFault gateway i refusals.Memory = Unit {0}
-IsOpenFault gateway i (refusals.Frame fault) = ⊥
-IsOpenFault gateway i refusals.Halted = ⊥
-IsOpenFault gateway i refusals.Exhausted = ⊥
+IsOpenFault gateway i refusal = ⊥
 
 -- the refusal is that the disk failed
 abbrev pub IsDiskFault : Refusal → Type 0
 IsDiskFault (refusals.Disk excuse) = Unit {0}
-IsDiskFault refusals.Halted = ⊥
-IsDiskFault (refusals.Frame fault) = ⊥
-IsDiskFault (refusals.Conflict client) = ⊥
-IsDiskFault refusals.Full = ⊥
-IsDiskFault refusals.Exhausted = ⊥
-IsDiskFault (refusals.Journal fault) = ⊥
-IsDiskFault refusals.Memory = ⊥
+IsDiskFault refusal = ⊥
 
 -- An opening may be refused so. Nothing is sent if the disk failed. The journal's own faults are
 -- those of what is in the slots: a failure of the disk is never one of them.
 abbrev pub MayRefuse : Refusal → Type 0
-MayRefuse (refusals.Frame fault) = ⊥
-MayRefuse refusals.Halted = ⊥
-MayRefuse refusals.Exhausted = ⊥
 MayRefuse (refusals.Disk excuse) = excuse ≡ only_sends []
 MayRefuse (refusals.Conflict client) = Unit {0}
 MayRefuse refusals.Full = Unit {0}
 MayRefuse (refusals.Journal journal_faults.Foreign) = Unit {0}
 MayRefuse (refusals.Journal (journal_faults.BadRecord slot at)) = Unit {0}
-MayRefuse (refusals.Journal journal_faults.Disk) = ⊥
-MayRefuse (refusals.Journal journal_faults.Halted) = ⊥
-MayRefuse (refusals.Journal journal_faults.Memory) = ⊥
 MayRefuse refusals.Memory = Unit {0}
+MayRefuse refusal = ⊥
 
 -- What a refused opening leaves in the slots. If they are no journal of this gateway, they are
 -- synced and not changed. If a record does not fit, they are as an opening leaves them. If memory
@@ -96,15 +83,13 @@ LeavesSlots gateway old refusals.Full new = new ≡ recovered gateway (image old
 LeavesSlots gateway old refusals.Memory new =
     (new ≡ old) ⊎ ((new ≡ synced_slots old) ⊎ (new ≡ recovered gateway (image old)))
 LeavesSlots gateway old (refusals.Disk excuse) new = Unit {0}
-LeavesSlots gateway old (refusals.Frame fault) new = ⊥
-LeavesSlots gateway old refusals.Halted new = ⊥
-LeavesSlots gateway old refusals.Exhausted new = ⊥
+LeavesSlots gateway old refusal new = ⊥
 
 -- ---- a node is opened again
 
 -- the image that an opening of the node's disk would read
 abbrev pub image_of : {D : Type 0} {G : Ghosts D} → State G → Image
-image_of {G = G} state = image (G.slots (disk_of state.journal))
+image_of {G = G} state = image (G.slots (disk_under state.journal))
 
 -- the journal goes on in this slot
 pub record GoesOnIn {D : Type 0} {G : Ghosts D} (state : State G) (gateway : ℕ)
@@ -119,22 +104,23 @@ pub record IsReopened {D : Type 0} {G : Ghosts D} (old new : State G) : Type 0 w
   pub local : new.local ≡ no_local
   pub runs : is_halted new ≡ false
   pub gateway : gateway_of new.journal ≡ gateway_of old.journal
-  pub failures : G.failures (disk_of old.journal) ≤ G.failures (disk_of new.journal)
-  pub starved : G.starved (disk_of old.journal) ≡ true → G.starved (disk_of new.journal) ≡ true
+  pub failures : G.failures (disk_under old.journal) ≤ G.failures (disk_under new.journal)
+  pub starved : G.starved (disk_under old.journal) ≡ true
+      → G.starved (disk_under new.journal) ≡ true
   pub records : G.honest → new.records ≡ length (on_disk old)
   pub keeps : G.honest → Keeps (all_of (on_disk old)) new.kept
   pub none : G.honest → on_disk old ≡ [] → new.kept ≡ []
   pub fits : G.honest → FitInTurn [] (on_disk old)
   pub found : G.honest → fault_of (gateway_of old.journal) (image_of old) ≡ None
   pub place : G.honest → GoesOnIn new (gateway_of old.journal) (image_of old)
-  pub known : G.honest → G.slots (disk_of new.journal) ≡ recovered (gateway_of old.journal)
+  pub known : G.honest → G.slots (disk_under new.journal) ≡ recovered (gateway_of old.journal)
       (image_of old)
-  pub durable : G.honest → Leaves (gateway_of old.journal) (G.slots (disk_of new.journal))
+  pub durable : G.honest → Leaves (gateway_of old.journal) (G.slots (disk_under new.journal))
       (on_disk old)
   -- a failure that is arranged for an append stays arranged
-  pub quiet : G.honest → G.starved (disk_of new.journal) ≡ false
-      → IsTrue (is_quiet (G.outlook (disk_of old.journal)) (is_fresh (image_of old)))
-      → G.outlook (disk_of new.journal) ≡ G.outlook (disk_of old.journal)
+  pub quiet : G.honest → G.starved (disk_under new.journal) ≡ false
+      → IsTrue (misses_failure (G.outlook (disk_under old.journal)) (is_fresh (image_of old)))
+      → G.outlook (disk_under new.journal) ≡ G.outlook (disk_under old.journal)
 
 -- The node was not opened again: what it keeps and knows is as before, and no crash leaves what it
 -- could not have left before. It is halted; only if memory ran out is it halted or not as before.
@@ -147,19 +133,20 @@ pub record IsNotReopened {D : Type 0} {G : Ghosts D} (old : State G) (refusal : 
   pub gateway : gateway_of new.journal ≡ gateway_of old.journal
   pub halts : refusal ≢ refusals.Memory → is_halted new ≡ true
   pub wanting : refusal ≡ refusals.Memory → is_halted new ≡ is_halted old
-  pub failures : G.failures (disk_of old.journal) ≤ G.failures (disk_of new.journal)
-  pub cause : IsDiskFault refusal → G.failures (disk_of old.journal)
-      < G.failures (disk_of new.journal)
-  pub starved : G.starved (disk_of old.journal) ≡ true → G.starved (disk_of new.journal) ≡ true
+  pub failures : G.failures (disk_under old.journal) ≤ G.failures (disk_under new.journal)
+  pub cause : IsDiskFault refusal → G.failures (disk_under old.journal)
+      < G.failures (disk_under new.journal)
+  pub starved : G.starved (disk_under old.journal) ≡ true
+      → G.starved (disk_under new.journal) ≡ true
   pub fault : G.honest → IsOpenFault (gateway_of old.journal) (image_of old) refusal
-  pub slots : G.honest → LeavesSlots (gateway_of old.journal) (G.slots (disk_of old.journal))
-      refusal (G.slots (disk_of new.journal))
-  pub leaves : G.honest → LeavesNoMore (gateway_of old.journal) (G.slots (disk_of old.journal))
-      (G.slots (disk_of new.journal))
-  pub blameless : G.honest → G.starved (disk_of new.journal) ≡ false
-      → IsTrue (is_quiet (G.outlook (disk_of old.journal)) (is_fresh (image_of old)))
+  pub slots : G.honest → LeavesSlots (gateway_of old.journal) (G.slots (disk_under old.journal))
+      refusal (G.slots (disk_under new.journal))
+  pub leaves : G.honest → LeavesNoMore (gateway_of old.journal) (G.slots (disk_under old.journal))
+      (G.slots (disk_under new.journal))
+  pub blameless : G.honest → G.starved (disk_under new.journal) ≡ false
+      → IsTrue (misses_failure (G.outlook (disk_under old.journal)) (is_fresh (image_of old)))
       → (IsDiskFault refusal → ⊥)
-      × (G.outlook (disk_of new.journal) ≡ G.outlook (disk_of old.journal))
+      × (G.outlook (disk_under new.journal) ≡ G.outlook (disk_under old.journal))
 
 -- The node is opened again, halted or not; nothing is sent.
 abbrev pub ReopenCall : {D : Type 0} {G : Ghosts D} → State G → Result Out Refusal → State G

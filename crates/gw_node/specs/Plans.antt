@@ -27,11 +27,7 @@ abbrev pub IsMisfit : List Op → List Op → Refusal → Type 0
 IsMisfit kept delta (refusals.Conflict client) = IsFaultOf kept delta (take_faults.Conflict client)
 IsMisfit kept delta refusals.Full = (limit : Limit) × IsFaultOf kept delta (take_faults.Full limit)
 IsMisfit kept delta refusals.Memory = Unit {0}
-IsMisfit kept delta (refusals.Frame fault) = ⊥
-IsMisfit kept delta refusals.Halted = ⊥
-IsMisfit kept delta (refusals.Disk out) = ⊥
-IsMisfit kept delta refusals.Exhausted = ⊥
-IsMisfit kept delta (refusals.Journal fault) = ⊥
+IsMisfit kept delta refusal = ⊥
 
 -- the operations make no delta
 abbrev pub MakeNoDelta : List Op → Type 0

@@ -9,13 +9,14 @@ use Rattle.jr_disk.specs.declared.disk.Disk.{Ghosts}
 use Rattle.jr_disk.specs.Disk.{Image, image, EachCrash}
 use Rattle.jr_journal.specs.Records.{records}
 use Rattle.jr_journal.specs.Faults.{is_fresh, fault_of}
-use Rattle.jr_journal.specs.Parts.{disk_of, gateway_of}
+use Rattle.jr_journal.specs.Parts.{disk_under, gateway_of}
 use Rattle.gw_event.specs.Gateways.{with_refused}
 use Rattle.gw_node.specs.Parts.{State, is_halted}
 
 -- the records that an opening of the node's disk would read
 abbrev pub on_disk : {D : Type 0} {G : Ghosts D} → State G → List (List Op)
-on_disk {G = G} state = records (gateway_of state.journal) (image (G.slots (disk_of state.journal)))
+on_disk {G = G} state =
+    records (gateway_of state.journal) (image (G.slots (disk_under state.journal)))
 
 -- J contains what must be kept of S, and lies within S and the deltas that were refused
 pub record IsBetween (S : List Op) (refused : List (List Op)) (J : List Op) : Type 0 where
@@ -28,7 +29,7 @@ IsWhole S refused J = (n : ℕ) × CountsAs (with_refused n S refused) J
 
 -- An opening finds no fault in the image. Its records stand for S with some first ones of what was
 -- refused. They contradict nothing. No front part of them passes a limit: they can be taken again.
-pub record StandsFor (gateway : ℕ) (S : List Op) (refused : List (List Op)) (i : Image)
+pub record RecoversTo (gateway : ℕ) (S : List Op) (refused : List (List Op)) (i : Image)
     : Type 0 where
   pub sound : fault_of gateway i ≡ None
   pub between : IsBetween S refused (all_of (records gateway i))
@@ -43,6 +44,6 @@ pub record HasTaken {D : Type 0} {G : Ghosts D} (S : List Op) (refused : List (L
     (state : State G) : Type 0 where
   pub counts : CountsAs S state.kept
   pub quiet : is_halted state ≡ false → refused ≡ []
-  pub images : G.honest → EachCrash (λ i. StandsFor (gateway_of state.journal) S refused i)
-      (G.slots (disk_of state.journal))
-  pub begun : G.honest → EachCrash (λ i. is_fresh i ≡ false) (G.slots (disk_of state.journal))
+  pub images : G.honest → EachCrash (λ i. RecoversTo (gateway_of state.journal) S refused i)
+      (G.slots (disk_under state.journal))
+  pub begun : G.honest → EachCrash (λ i. is_fresh i ≡ false) (G.slots (disk_under state.journal))

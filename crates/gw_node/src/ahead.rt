@@ -9,14 +9,14 @@ ghost use Rattle.gw_answer.specs.declared.step.Step.TheVariants as steps;
 ghost use Rattle.gw_event.specs.Together.{if_any, put_by};
 ghost use Rattle.gw_node.specs.Parts.{state_of};
 ghost use Rattle.gw_node.specs.Parts as parts;
-ghost use Rattle.gw_node.specs.inner.Ahead.{CarriedAhead, TakeAhead, made_by};
+ghost use Rattle.gw_node.specs.inner.Ahead.{CarriedAhead, TakeAhead, made_in};
 ghost use Rattle.gw_node.specs.inner.Rows.{CarriedAlong, WentAhead, made_if, put_if, IsFor};
 
 use super::carrying::{make_ready, ops_of, prepare};
 use super::looking::{Left, look};
 use super::node::Node;
 use gw_answer::{Out, Refusal, Shares, Step};
-use gw_own::{keep_owned, note_taken};
+use gw_own::{apply_local_after_delta, keep_owned};
 use jr_journal::{Disk, Records};
 use octets::{NoMemory, Sequence};
 use rep_model::Replica;
@@ -160,7 +160,7 @@ pub(crate) fn carry_ahead<R: Replica, D: Disk + Drop>(
     requires some { plan.ops ≢ [] }
     requires can { R.can_go_back node.old.replica aside.old }
     ensures call { CarriedAhead (state_of R.kept node.old) plan result (state_of R.kept node.new) }
-    ensures records { records.new ≡ records.old ++ made_by result }
+    ensures records { records.new ≡ records.old ++ made_in result }
     ensures can { R.can_go_back node.new.replica aside.new }
     ensures back { R.back node.new.replica aside.new ≡ R.back node.old.replica aside.old }
 {
@@ -186,7 +186,7 @@ pub(crate) fn carry_ahead<R: Replica, D: Disk + Drop>(
     };
     node.replica.commit(staged);
     let made = ops_of(&answer.out().made);
-    node.tidy = note_taken(
+    node.tidy = apply_local_after_delta(
         node.config.gateway,
         &node.replica,
         &mut node.dialogs,

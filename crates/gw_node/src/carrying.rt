@@ -4,15 +4,15 @@
 ghost use Rattle.std.specs.Prelude.{◌≡◌, ◌≢◌, ◌⊎◌, ◌++◌, List, [], length, IfOk, IfErr, OnOk, OnErr, unwrap_or};
 ghost use Rattle.rep_op.specs.declared.op.Op.{Op};
 ghost use Rattle.rep_ops.specs.Deltas.{IsDelta};
-ghost use Rattle.rep_ops.specs.Making.{AreApart, IsDeltaOf};
-ghost use Rattle.rep_ops.specs.Spelling.{IsWithinLimit};
+ghost use Rattle.rep_ops.specs.Making.{HaveOwnNames, IsDeltaOf};
+ghost use Rattle.rep_ops.specs.Spelling.{IsDeltaWithinLimit};
 ghost use Rattle.rep_model.specs.Taking.{Fits};
 ghost use Rattle.rep_model.specs.Keep.{IsKeptOf};
 ghost use Rattle.sn_local.specs.Locals.{IsRoomFor};
 ghost use Rattle.gw_node.specs.Parts.{state_of, IsUnchanged};
 ghost use Rattle.gw_answer.specs.Answers.{only_sends};
 ghost use Rattle.gw_node.specs.Plans.{IsMisfit};
-ghost use Rattle.gw_node.specs.inner.Writing.{WrittenAs, WrittenIfMade, WrittenIfAny, refusal_of};
+ghost use Rattle.gw_node.specs.inner.Writing.{WrittenAs, WrittenIfMade, WrittenIfAny, refusal_of_journal};
 ghost use Rattle.gw_node.specs.Calls.{TakeCall, IsDone};
 ghost use Rattle.gw_node.specs.inner.Ahead.{GoesBackAs};
 ghost use Rattle.gw_node.specs.inner.Handling.{HaveNoDelta, CarriedOut};
@@ -20,7 +20,7 @@ ghost use Rattle.gw_event.specs.Event.{IsWritable};
 
 use super::node::Node;
 use gw_answer::{Out, Refusal, Shares, Subjects};
-use gw_own::{keep_owned, note_changes, note_taken};
+use gw_own::{apply_local_after_delta, keep_owned, note_changes};
 use jr_journal::{Disk, Journal, JournalFault};
 use octets::{NoMemory, Sequence};
 use rep_model::{Replica, TakeFault};
@@ -31,9 +31,9 @@ use std::alloc::Global;
 
 /// The delta of these operations.
 fn delta_of(alloc: Global, ops: Vec<Op>) -> Result<Delta, Refusal>
-    ensures apart { OnOk result (AreApart ops.items) }
+    ensures apart { OnOk result (HaveOwnNames ops.items) }
     ensures ok { IfOk result (λ delta. IsDeltaOf ops.items delta) }
-    ensures limit { IfOk result (λ delta. IsWithinLimit delta) }
+    ensures limit { IfOk result (λ delta. IsDeltaWithinLimit delta) }
     ensures err { IfErr result (HaveNoDelta ops.items) }
 {
     match Delta::from_ops(alloc, ops) {
@@ -122,7 +122,7 @@ pub(crate) fn ops_of(made: &Option<Delta>) -> &[Op]
 
 /// A refusal of the journal, with what is answered.
 pub(crate) fn refused(fault: JournalFault, excuse: Shares) -> Refusal
-    ensures { result ≡ refusal_of fault excuse }
+    ensures { result ≡ refusal_of_journal fault excuse }
 {
     match fault {
         JournalFault::Disk => Refusal::Disk { excuse },
@@ -133,7 +133,7 @@ pub(crate) fn refused(fault: JournalFault, excuse: Shares) -> Refusal
 }
 
 /// Carries out a plan without operations: what it notes is noted.
-pub(crate) fn note<R: Replica, D: Disk + Drop>(
+pub(crate) fn apply_local<R: Replica, D: Disk + Drop>(
     alloc: Global,
     node: &mut Node<R, D>,
     plan: Plan,
@@ -184,9 +184,9 @@ pub(crate) fn make_ready<R: Replica>(
     ensures unchanged { R.kept replica.new ≡ R.kept replica.old }
     ensures local { dialogs.new.local ≡ dialogs.old.local }
     ensures room { OnOk result (IsRoomFor (length local.now) dialogs.new.room) }
-    ensures apart { OnOk result (AreApart ops.items) }
+    ensures apart { OnOk result (HaveOwnNames ops.items) }
     ensures delta { IfOk result (λ ready. IsDeltaOf ops.items ready.1) }
-    ensures limit { IfOk result (λ ready. IsWithinLimit ready.1) }
+    ensures limit { IfOk result (λ ready. IsDeltaWithinLimit ready.1) }
     ensures writable { IfOk result (λ ready. IsWritable ready.1) }
     ensures fits { IfOk result (λ ready. Fits (R.kept replica.old) ready.1) }
     ensures ready { IfOk result (λ ready. R.ready replica.new ready.0) }
@@ -248,7 +248,7 @@ fn refuse(
 /// Carries out a plan with operations: they become one delta, which is written to the journal and
 /// taken, and what the plan notes is noted. `excuse` is answered where the journal cannot be
 /// written.
-pub(crate) fn carry_out<R: Replica, D: Disk + Drop>(
+pub(crate) fn write_and_apply<R: Replica, D: Disk + Drop>(
     alloc: Global,
     node: &mut Node<R, D>,
     plan: Plan,
@@ -282,7 +282,7 @@ pub(crate) fn carry_out<R: Replica, D: Disk + Drop>(
             drop(excuse);
             node.replica.commit(staged);
             let made = ops_of(&answer.out().made);
-            node.tidy = note_taken(
+            node.tidy = apply_local_after_delta(
                 node.config.gateway,
                 &node.replica,
                 &mut node.dialogs,
@@ -303,7 +303,7 @@ pub(crate) fn carry_out<R: Replica, D: Disk + Drop>(
 
 /// Takes a delta: it is written to the journal, and clients that another gateway now owns have no
 /// address here any more.
-pub(crate) fn take_in<R: Replica, D: Disk + Drop>(
+pub(crate) fn write_and_take<R: Replica, D: Disk + Drop>(
     alloc: Global,
     node: &mut Node<R, D>,
     delta: &Delta,

@@ -1,7 +1,7 @@
 //! What the calls of a node do, up to the answer.
 
 ghost use Rattle.std.specs.Prelude.{◌≡◌, Some, [], false, IfOk, IfErr, IsTrue};
-ghost use Rattle.rep_digest.specs.Spelling.{IsWithinLimit};
+ghost use Rattle.rep_digest.specs.Spelling.{IsDigestWithinLimit};
 ghost use Rattle.sn_frame.specs.Bodies.{IsMessage, IsValue};
 ghost use Rattle.sn_frame.specs.Grammar.{Spells};
 ghost use Rattle.gw_event.specs.Occasions.{Datagram, Clock};
@@ -13,9 +13,9 @@ ghost use Rattle.gw_node.specs.Calls.{OwnCall, ViewCall, DigestCall, AnswerCall,
 ghost use Rattle.gw_node.specs.inner.Handling.{IsNoFrameBy, IsNoPlan, planned_for, ticked, CarriedOut, Answers, IsIdleAt};
 ghost use Rattle.gw_event.specs.Event.{shows};
 
-use super::anew::{handle_compact, handle_reopen};
-use super::carrying::{carry_out, note, take_in};
+use super::carrying::{apply_local, write_and_apply, write_and_take};
 use super::node::Node;
+use super::rewriting::{handle_compact, handle_reopen};
 use gw_answer::{Out, Refusal, Shares, Step};
 use gw_own::excuses;
 use jr_journal::Disk;
@@ -100,10 +100,10 @@ fn carry_for_frame<R: Replica, D: Disk + Drop>(
         (only_sends (spec.excuses from frame.now plan.sends)) result (state_of R.kept node.new) }
 {
     if plan.ops.is_empty() {
-        return Ok(note(alloc, node, plan)?);
+        return Ok(apply_local(alloc, node, plan)?);
     }
     let excuse = excuses(alloc, from, frame, plan.sends.as_slice())?;
-    carry_out(alloc, node, plan, Out::of_sends(alloc, excuse))
+    write_and_apply(alloc, node, plan, Out::of_sends(alloc, excuse))
 }
 
 /// Carries out the plan of a tick. Nobody waits for its answer.
@@ -116,9 +116,9 @@ fn carry_for_tick<R: Replica, D: Disk + Drop>(
         (state_of R.kept node.new) }
 {
     if plan.ops.is_empty() {
-        return Ok(note(alloc, node, plan)?);
+        return Ok(apply_local(alloc, node, plan)?);
     }
-    carry_out(
+    write_and_apply(
         alloc,
         node,
         plan,
@@ -254,7 +254,7 @@ pub(crate) fn handle_view<R: Replica, D: Disk>(
 
 /// An answer that gives a digest, of which its type promises that it is not too long.
 fn give_digest(alloc: Global, digest: Digest) -> Result<Shares, NoMemory>
-    ensures size { IsWithinLimit digest }
+    ensures size { IsDigestWithinLimit digest }
     ensures ok { IfOk result (λ out. out ≡ record (only_sends []) { digest = Some digest }) }
 {
     let _entries = digest.clients();
@@ -302,7 +302,7 @@ pub(crate) fn handle_step<R: Replica, D: Disk + Drop>(
         Step::Frame { from, bytes, now } => {
             handle_frame(alloc, node, *from, bytes.as_slice(), *now)
         }
-        Step::Take { delta } => take_in(alloc, node, delta),
+        Step::Take { delta } => write_and_take(alloc, node, delta),
         Step::Tick { now } => handle_tick(alloc, node, *now),
         Step::View { client } => handle_view(alloc, node, client),
         Step::Digest => handle_digest(alloc, node),

@@ -14,10 +14,11 @@
 //!   state, in this order.
 //! - `row`: several calls with one write. `looking` finds what has something to write, and `ahead`
 //!   carries a call out, but for the write.
-//! - `anew`: the journal is written anew from what is kept, or read anew.
+//! - `rewriting`: the journal is written anew from what is kept, or read anew.
 //! - `retained`: what it retains of topics.
-//! - `laws`: what an opening finds that goes on with what was taken (`opening_laws`), and what is
-//!   said of one delta that was refused (`single_refusal`).
+//! - `laws`: what an opening finds that goes on with what was taken (`opening_laws`), what is said
+//!   of one delta that was refused (`single_refusal`), and which set a node has taken after a call
+//!   (`calls_carry_on`).
 //!
 //! A call as a value (`Step`), and what is answered (`Out`, `NodeFault`), are in the crate
 //! `gw_answer`. Whom a gateway owns, and how it excuses itself, is in `gw_own`.
@@ -35,7 +36,6 @@
 #![tactic(auto)]
 
 mod ahead;
-mod anew;
 mod carrying;
 mod handling;
 mod laws;
@@ -43,10 +43,11 @@ mod looking;
 mod node;
 mod opening;
 mod retained;
+mod rewriting;
 mod row;
 
 pub use gw_answer::{Answer, NodeFault, Out, Refusal, Shares, Step, same_answer, same_step};
-pub use laws::{opening_laws, single_refusal};
+pub use laws::{calls_carry_on, opening_laws, single_refusal};
 pub use node::Node;
 pub use rep_same::same_deltas;
 pub use row::{MOST_OF_A_ROW, Reply};

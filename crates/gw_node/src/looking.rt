@@ -9,7 +9,7 @@ ghost use Rattle.gw_node.specs.Parts as parts;
 ghost use Rattle.gw_node.specs.inner.Handling.{planned_for};
 ghost use Rattle.gw_node.specs.inner.Ahead.{NotedAs, LooksFor, LooksAt, IsLooked};
 
-use super::carrying::note;
+use super::carrying::apply_local;
 use super::handling::{plan_for, plan_of_tick, read};
 use super::node::Node;
 use gw_answer::{Out, Refusal, Shares, Step};
@@ -43,7 +43,7 @@ fn noted<R: Replica, D: Disk + Drop>(
     ensures noted { NotedAs (state_of R.kept node.old) plan result (state_of R.kept node.new) }
     ensures replica { node.new.replica ≡ node.old.replica }
 {
-    match note(alloc, node, plan) {
+    match apply_local(alloc, node, plan) {
         Ok(answer) => Ok(answer),
         Err(_) => Err(Refusal::Memory),
     }

@@ -13,13 +13,13 @@ ghost use Rattle.std.specs.Prelude.{◌≡◌, true};
 ghost use Rattle.gw_node.specs.inner.Resting.{rests};
 ghost use Rattle.gw_own.specs.inner.Tidy.{tidied};
 
-use super::anew::{handle_compact, handle_reopen};
-use super::carrying::take_in;
+use super::carrying::write_and_take;
 use super::handling::{
     handle_answer, handle_digest, handle_frame, handle_step, handle_tick, handle_view,
 };
 use super::opening::{not_opened, nothing, start};
 use super::retained::retained_of;
+use super::rewriting::{handle_compact, handle_reopen};
 use super::row::{Reply, USUAL, WHOLE, play};
 use gw_answer::{Answer, NodeFault, Step, one_share, three_shares};
 use gw_glance::{glance, messages_known};
@@ -64,17 +64,16 @@ impl<R: Replica, D: Disk + Drop> Node<R, D> {
     ghost use Rattle.jr_journal.specs.Records.{records};
     ghost use Rattle.jr_journal.specs.Faults.{is_fresh, fault_of};
     ghost use Rattle.jr_journal.specs.Crashes.{recovered, LeavesNoMore};
-    ghost use Rattle.jr_journal.specs.Arranged.{is_quiet};
+    ghost use Rattle.jr_journal.specs.Arranged.{misses_failure};
     ghost use Rattle.gw_answer.specs.declared.step.Step.TheVariants as steps;
     ghost use Rattle.gw_event.specs.Occasions.{Datagram, Clock};
     ghost use Rattle.gw_node.specs.Parts.{state_of, disk_of, records_of};
     ghost use Rattle.gw_node.specs.Parts as spec;
-    ghost use Rattle.gw_answer.specs.Answers.{told, said};
+    ghost use Rattle.gw_answer.specs.Answers.{refusal_of_fault, said};
     ghost use Rattle.gw_node.specs.Calls.{OwnCall, TakeCall, ViewCall, DigestCall, AnswerCall, CompactCall, StepCall};
     ghost use Rattle.gw_node.specs.Keeping.{Keeps};
-    ghost use Rattle.gw_node.specs.Taking.{StandsFor, HasTaken};
+    ghost use Rattle.gw_node.specs.Taking.{RecoversTo, HasTaken};
     ghost use Rattle.gw_node.specs.Opening.{IsStarted, FitInTurn, MayRefuse, IsDiskFault, IsOpenFault, LeavesSlots, GoesOnIn, ReopenCall};
-    ghost use Rattle.gw_node.specs.Carrying.{CarriesOn, OwnCarriesOn, TakesNothing, ReopenCarriesOn, StepCarriesOn};
     ghost use Rattle.gw_node.specs.Standing.{EventOn, EventsOn};
     ghost use Rattle.gw_node.specs.Failures.{failed_all};
     ghost use Rattle.gw_node.specs.Glancing.{glimpses_of};
@@ -91,10 +90,10 @@ impl<R: Replica, D: Disk + Drop> Node<R, D> {
     /// left before.
     pub fn open(alloc: Global, config: Config, disk: D) -> Result<Node<R, D>, (D, NodeFault)>
         ensures starts { IfOk result (λ node. IsStarted config (state_of R.kept node)) }
-        ensures may { IfErr result (λ refused. MayRefuse (told refused.1)) }
+        ensures may { IfErr result (λ refused. MayRefuse (refusal_of_fault refused.1)) }
         ensures counts { MatchResult result (λ node. D.failures disk ≤ D.failures (disk_of node))
             (λ refused. D.failures disk ≤ D.failures refused.0) }
-        ensures cause { IfErr result (λ refused. IsDiskFault (told refused.1)
+        ensures cause { IfErr result (λ refused. IsDiskFault (refusal_of_fault refused.1)
             → D.failures disk < D.failures refused.0) }
         ensures starved { D.starved disk ≡ true
             → MatchResult result (λ node. D.starved (disk_of node) ≡ true)
@@ -116,12 +115,12 @@ impl<R: Replica, D: Disk + Drop> Node<R, D> {
             (FitInTurn [] (records config.gateway (image (D.slots disk)))) }
         // beside whatever set it had taken before it stopped.
         ensures restarts { D.honest → IfOk result (λ node. (S : List Op) (refused : List (List Op))
-            → StandsFor config.gateway S refused (image (D.slots disk)) →
+            → RecoversTo config.gateway S refused (image (D.slots disk)) →
             HasTaken (S ++ all_of (records config.gateway (image (D.slots disk)))) []
             (state_of R.kept node)) }
         // Where nothing was refused, that is the set itself.
         ensures durable { D.honest → IfOk result (λ node. (S : List Op)
-            → StandsFor config.gateway S [] (image (D.slots disk))
+            → RecoversTo config.gateway S [] (image (D.slots disk))
             → HasTaken S [] (state_of R.kept node)) }
         // Its journal goes on in the slot that is read.
         ensures place { D.honest → IfOk result (λ node. GoesOnIn (state_of R.kept node)
@@ -133,23 +132,24 @@ impl<R: Replica, D: Disk + Drop> Node<R, D> {
         ensures found { D.honest → OnOk result
             (fault_of config.gateway (image (D.slots disk)) ≡ None) }
         ensures fault { D.honest → IfErr result (λ refused. IsOpenFault config.gateway
-            (image (D.slots disk)) (told refused.1)) }
+            (image (D.slots disk)) (refusal_of_fault refused.1)) }
         // Refused for another cause than the disk, it leaves the slots as they were, synced, or as
         // an opening leaves them.
         ensures slots { D.honest → IfErr result (λ refused. LeavesSlots config.gateway
-            (D.slots disk) (told refused.1) (D.slots refused.0)) }
+            (D.slots disk) (refusal_of_fault refused.1) (D.slots refused.0)) }
         // Whatever refused it, no crash leaves what it could not have left before.
         ensures leaves { D.honest → IfErr result (λ refused. LeavesNoMore config.gateway
             (D.slots disk) (D.slots refused.0)) }
         // A failure that is arranged for an append stays arranged, unless a journal is begun.
-        ensures quiet { D.honest → IsTrue (is_quiet (D.outlook disk)
+        ensures quiet { D.honest → IsTrue (misses_failure (D.outlook disk)
             (is_fresh (image (D.slots disk)))) →
             IfOk result (λ node. D.starved (disk_of node) ≡ false
             → D.outlook (disk_of node) ≡ D.outlook disk) }
         ensures blameless { D.honest → IsTrue
-            (is_quiet (D.outlook disk) (is_fresh (image (D.slots disk)))) →
+            (misses_failure (D.outlook disk) (is_fresh (image (D.slots disk)))) →
             IfErr result (λ refused. D.starved refused.0 ≡ false
-            → (IsDiskFault (told refused.1) → ⊥) × (D.outlook refused.0 ≡ D.outlook disk)) }
+            → (IsDiskFault (refusal_of_fault refused.1) → ⊥)
+            × (D.outlook refused.0 ≡ D.outlook disk)) }
     {
         let Ok(replica) = R::empty(alloc) else {
             return Err((disk, NodeFault::Memory));
@@ -182,8 +182,6 @@ impl<R: Replica, D: Disk + Drop> Node<R, D> {
     pub fn frame(&mut self, alloc: Global, from: Addr, bytes: &[u8], now: u64) -> Answer
         ensures call { OwnCall (state_of R.kept self.old) (Datagram from bytes.now) now
             (said result) (state_of R.kept self.new) }
-        ensures taken { OwnCarriesOn (state_of R.kept self.old) (Datagram from bytes.now) now
-            (said result) (state_of R.kept self.new) }
         ensures event { EventOn (state_of R.kept self.old) (steps.Frame from bytes.now now)
             (said result) (state_of R.kept self.new) }
     {
@@ -202,12 +200,10 @@ impl<R: Replica, D: Disk + Drop> Node<R, D> {
     pub fn take(&mut self, alloc: Global, delta: &Delta) -> Answer
         ensures call { TakeCall (state_of R.kept self.old) delta.now (said result)
             (state_of R.kept self.new) }
-        ensures taken { CarriesOn (state_of R.kept self.old) delta.now (said result)
-            (state_of R.kept self.new) }
         ensures event { EventOn (state_of R.kept self.old) (steps.Take delta.now) (said result)
             (state_of R.kept self.new) }
     {
-        one_share(take_in(alloc, self, delta))
+        one_share(write_and_take(alloc, self, delta))
     }
 
     /// Time goes by: it is this moment, in seconds. One thing is done that is due: ADVERTISE
@@ -218,8 +214,6 @@ impl<R: Replica, D: Disk + Drop> Node<R, D> {
     /// `Disk` nothing is to be sent.
     pub fn tick(&mut self, alloc: Global, now: u64) -> Answer
         ensures call { OwnCall (state_of R.kept self.old) Clock now (said result)
-            (state_of R.kept self.new) }
-        ensures taken { OwnCarriesOn (state_of R.kept self.old) Clock now (said result)
             (state_of R.kept self.new) }
         ensures event { EventOn (state_of R.kept self.old) (steps.Tick now) (said result)
             (state_of R.kept self.new) }
@@ -273,7 +267,6 @@ impl<R: Replica, D: Disk + Drop> Node<R, D> {
     pub fn compact(&mut self, alloc: Global) -> Answer
         ensures call { CompactCall (state_of R.kept self.old) (said result)
             (state_of R.kept self.new) }
-        ensures taken { TakesNothing (state_of R.kept self.old) (state_of R.kept self.new) }
         ensures event { EventOn (state_of R.kept self.old) steps.Compact (said result)
             (state_of R.kept self.new) }
     {
@@ -289,8 +282,6 @@ impl<R: Replica, D: Disk + Drop> Node<R, D> {
     pub fn reopen(&mut self, alloc: Global) -> Answer
         ensures call { ReopenCall (state_of R.kept self.old) (said result)
             (state_of R.kept self.new) }
-        ensures taken { ReopenCarriesOn (state_of R.kept self.old) (said result)
-            (state_of R.kept self.new) }
         ensures event { EventOn (state_of R.kept self.old) steps.Reopen (said result)
             (state_of R.kept self.new) }
     {
@@ -301,8 +292,6 @@ impl<R: Replica, D: Disk + Drop> Node<R, D> {
     /// is written, so that a call that was done can always be told.
     pub fn step(&mut self, alloc: Global, step: &Step) -> (Answer, Answer, Answer)
         ensures call { StepCall (state_of R.kept self.old) step.now (said result.0)
-            (state_of R.kept self.new) }
-        ensures taken { StepCarriesOn (state_of R.kept self.old) step.now (said result.0)
             (state_of R.kept self.new) }
         ensures event { EventOn (state_of R.kept self.old) step.now (said result.0)
             (state_of R.kept self.new) }
@@ -318,9 +307,9 @@ impl<R: Replica, D: Disk + Drop> Node<R, D> {
     ///
     /// Each call is answered as if it came alone, on what those before it led to; and its answer is
     /// given in shares, which are taken before the journal is written. Where the disk fails, `Disk`
-    /// is told to the first call that had something to write, with its excuse, and `Halted` to those
-    /// behind it; what the node keeps and knows is as before that first one. Of the deltas that were
-    /// to be written a crash may leave some first ones, each whole.
+    /// is told to the first call that had something to write, with its excuse, and `Halted` to
+    /// those behind it; what the node keeps and knows is as before that first one. Of the deltas
+    /// that were to be written a crash may leave some first ones, each whole.
     ///
     /// A call is done alone if it is no datagram, delta or tick, if the node is halted, if it has
     /// nothing to write or more than 64 operations, and where memory runs out for a row. A row ends
@@ -339,10 +328,11 @@ impl<R: Replica, D: Disk + Drop> Node<R, D> {
         play(alloc, self, USUAL, &steps[0], &steps[1..], room)
     }
 
-    /// Calls one after the other, of which what they make and take is written at once, as `step_all`
-    /// carries them out, but without its bounds. No call is done alone and no row ends because there
-    /// are too many operations, or octets of records. So where the disk fails, and memory did not
-    /// run out, all calls behind the first that had something to write were in the write.
+    /// Calls one after the other, of which what they make and take is written at once, as
+    /// `step_all` carries them out, but without its bounds. No call is done alone and no row ends
+    /// because there are too many operations, or octets of records. So where the disk fails, and
+    /// memory did not run out, all calls behind the first that had something to write were in the
+    /// write.
     pub fn step_whole(&mut self, alloc: Global, steps: &[Arc<Step>], room: Vec<Reply>) -> Vec<Reply>
         requires some { 0 < length steps.now }
         requires room { (room.items ≡ []) × (length steps.now ≤ vec_capacity room) }

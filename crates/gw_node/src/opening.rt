@@ -6,8 +6,8 @@ ghost use Rattle.rep_ops.specs.Splitting.{all_of};
 ghost use Rattle.jr_journal.specs.Parts as spec;
 ghost use Rattle.sn_local.specs.Locals.{no_local};
 ghost use Rattle.gw_node.specs.Parts.{state_of, records_of};
-ghost use Rattle.gw_answer.specs.Answers.{told, only_sends};
-ghost use Rattle.gw_node.specs.inner.Writing.{refusal_of};
+ghost use Rattle.gw_answer.specs.Answers.{refusal_of_fault, only_sends};
+ghost use Rattle.gw_node.specs.inner.Writing.{refusal_of_journal};
 ghost use Rattle.gw_node.specs.Keeping.{Keeps};
 ghost use Rattle.gw_node.specs.Opening.{FitInTurn};
 ghost use Rattle.gw_node.specs.inner.Opening.{DoNotFit};
@@ -60,8 +60,8 @@ pub(crate) fn start<R: Replica, D: Disk + Drop>(
     ensures keeps { IfOk result (λ node. Keeps (all_of deltas.items) (state_of R.kept node).kept) }
     ensures fits { OnOk result (FitInTurn [] deltas.items) }
     ensures none { IfOk result (λ node. deltas.items ≡ [] → (state_of R.kept node).kept ≡ []) }
-    ensures disk { IfErr result (λ refused. refused.0 ≡ spec.disk_of journal) }
-    ensures err { IfErr result (λ refused. DoNotFit deltas.items (told refused.1)) }
+    ensures disk { IfErr result (λ refused. refused.0 ≡ spec.disk_under journal) }
+    ensures err { IfErr result (λ refused. DoNotFit deltas.items (refusal_of_fault refused.1)) }
 {
     let mut replica = replica;
     match take_all(alloc, &mut replica, deltas.as_slice()) {
@@ -87,7 +87,7 @@ pub(crate) fn nothing(alloc: Global) -> Option<Arc<Out>>
 
 /// A fault of the journal, with what is answered.
 pub(crate) fn not_opened(fault: JournalFault, out: Arc<Out>) -> NodeFault
-    ensures { told result ≡ refusal_of fault (arc_value out) }
+    ensures { refusal_of_fault result ≡ refusal_of_journal fault (arc_value out) }
 {
     match fault {
         JournalFault::Disk => NodeFault::Disk { out },

@@ -14,10 +14,10 @@ ghost use Rattle.gw_node.specs.Parts.{state_of};
 ghost use Rattle.gw_node.specs.Parts as parts;
 ghost use Rattle.gw_node.specs.inner.Ahead.{IsWriter};
 ghost use Rattle.gw_node.specs.inner.Rows.{WrittenAllAs, OneMore, WentOn, excused, EndedAs, IsFinished, RowCall};
-ghost use Rattle.jr_journal.specs.Parts.{is_halted as is_stopped};
+ghost use Rattle.jr_journal.specs.Parts.{is_stopped};
 
 use super::ahead::{Most, carry_ahead, go_ahead, take_ahead};
-use super::carrying::{carry_out, take_in};
+use super::carrying::{write_and_apply, write_and_take};
 use super::handling::handle_step;
 use super::looking::{Left, look};
 use super::node::Node;
@@ -51,15 +51,44 @@ pub(crate) const WHOLE: Most = Most {
 /// What a node answers to a call, in shares.
 pub type Reply = Result<Shares, Refusal>;
 
-/// What a row is that is not written yet.
+/// What the calls of a row did that is not written yet.
+#[derive(Drop)]
+struct Unwritten<R: Replica> {
+    /// What their deltas replaced.
+    aside: R,
+    /// The records of their deltas.
+    records: Records,
+}
+
+/// A row that is not written yet.
 #[derive(Drop)]
 struct Row<R: Replica> {
-    /// What its deltas replaced.
-    aside: R,
+    /// What its calls did.
+    unwritten: Unwritten<R>,
     /// The local state before it.
     dialogs: Dialogs,
-    /// The records of its deltas.
-    records: Records,
+}
+
+/// A row whose first call was carried out.
+#[derive(Drop)]
+struct Begun<R: Replica> {
+    /// The row.
+    row: Row<R>,
+    /// What that call is answered.
+    answer: Shares,
+    /// And if the write fails.
+    excuse: Shares,
+}
+
+/// The calls of a row.
+#[derive(Clone, Copy)]
+struct Calls<'a> {
+    /// The first of them.
+    first: &'a Step,
+    /// Those behind it.
+    rest: &'a [Arc<Step>],
+    /// How much there is at most in the row.
+    most: Most,
 }
 
 /// A place for what a row replaces, and a copy of the local state.
@@ -86,20 +115,20 @@ impl<R: Replica> Row<R> {
 
     /// A row of no call yet.
     fn new<D: Disk + Drop>(alloc: Global, node: &Node<R, D>) -> Result<Row<R>, NoMemory>
-        ensures can { IfOk result (λ row. R.can_go_back node.now.replica row.aside) }
-        ensures back { IfOk result (λ row. R.back node.now.replica row.aside
+        ensures can { IfOk result (λ row. R.can_go_back node.now.replica row.unwritten.aside) }
+        ensures back { IfOk result (λ row. R.back node.now.replica row.unwritten.aside
             ≡ R.kept node.now.replica) }
         ensures local { IfOk result (λ row. row.dialogs.local ≡ node.now.dialogs.local) }
-        ensures records { IfOk result (λ row. row.records ≡ []) }
+        ensures records { IfOk result (λ row. row.unwritten.records ≡ []) }
     {
         let (aside, dialogs) = match places(alloc, node) {
             Ok(made) => made,
             Err(_) => return Err(NoMemory),
         };
+        let records = Records::empty(alloc);
         Ok(Row {
-            aside,
+            unwritten: Unwritten { aside, records },
             dialogs,
-            records: Records::empty(alloc),
         })
     }
 }
@@ -109,26 +138,34 @@ impl<R: Replica> Row<R> {
 fn one_more<R: Replica, D: Disk + Drop>(
     alloc: Global,
     node: &mut Node<R, D>,
-    aside: &mut R,
-    records: &mut Records,
+    unwritten: &mut Unwritten<R>,
     most: Most,
     step: &Step,
     replies: &mut Vec<Reply>,
 ) -> bool
     requires runs { parts.is_halted (state_of R.kept node.old) ≡ false }
-    requires can { R.can_go_back node.old.replica aside.old }
+    requires can { R.can_go_back node.old.replica unwritten.old.aside }
     requires room { vec_len replies.old < vec_capacity replies.old }
-    ensures call { OneMore (state_of R.kept node.old) step.now replies.old.items records.old
-        result replies.new.items records.new (state_of R.kept node.new) }
-    ensures can { R.can_go_back node.new.replica aside.new }
-    ensures back { R.back node.new.replica aside.new ≡ R.back node.old.replica aside.old }
+    ensures call { OneMore (state_of R.kept node.old) step.now replies.old.items
+        unwritten.old.records result replies.new.items unwritten.new.records
+        (state_of R.kept node.new) }
+    ensures can { R.can_go_back node.new.replica unwritten.new.aside }
+    ensures back { R.back node.new.replica unwritten.new.aside
+        ≡ R.back node.old.replica unwritten.old.aside }
     ensures room { vec_capacity replies.new ≡ vec_capacity replies.old }
     ensures length { vec_len replies.new ≤ vec_len replies.old + 1 }
 {
-    if most.octets < records.size() {
+    if most.octets < unwritten.records.size() {
         return false;
     }
-    match go_ahead(alloc, node, aside, records, most, step) {
+    match go_ahead(
+        alloc,
+        node,
+        &mut unwritten.aside,
+        &mut unwritten.records,
+        most,
+        step,
+    ) {
         Some(reply) => {
             replies.push_reserved(reply);
             true
@@ -141,23 +178,23 @@ fn one_more<R: Replica, D: Disk + Drop>(
 fn go_on<R: Replica, D: Disk + Drop>(
     alloc: Global,
     node: &mut Node<R, D>,
-    aside: &mut R,
-    records: &mut Records,
+    unwritten: &mut Unwritten<R>,
     most: Most,
     rest: &[Arc<Step>],
     replies: &mut Vec<Reply>,
 )
     requires runs { parts.is_halted (state_of R.kept node.old) ≡ false }
-    requires can { R.can_go_back node.old.replica aside.old }
+    requires can { R.can_go_back node.old.replica unwritten.old.aside }
     requires room { vec_len replies.old + length rest.now ≤ vec_capacity replies.old }
     ensures calls { WentOn (state_of R.kept node.old) (map arc_value rest.now) replies.old.items
-        records.old replies.new.items records.new (state_of R.kept node.new) }
-    ensures can { R.can_go_back node.new.replica aside.new }
-    ensures back { R.back node.new.replica aside.new ≡ R.back node.old.replica aside.old }
+        unwritten.old.records replies.new.items unwritten.new.records (state_of R.kept node.new) }
+    ensures can { R.can_go_back node.new.replica unwritten.new.aside }
+    ensures back { R.back node.new.replica unwritten.new.aside
+        ≡ R.back node.old.replica unwritten.old.aside }
 {
     for index in 0..rest.len() {
         let step = &rest[index];
-        if !one_more(alloc, node, aside, records, most, step, replies) {
+        if !one_more(alloc, node, unwritten, most, step, replies) {
             return;
         }
     }
@@ -238,40 +275,35 @@ fn end_row<R: Replica, D: Disk + Drop>(
     }
 }
 
-/// Carries out the rest of a row, whose first call was carried out and has this answer, and writes
-/// the records.
+/// Carries out the rest of a row whose first call was carried out, and writes the records.
 fn finish<R: Replica, D: Disk + Drop>(
     alloc: Global,
     node: &mut Node<R, D>,
-    row: Row<R>,
-    answer: Shares,
-    excuse: Shares,
+    begun: Begun<R>,
     most: Most,
     rest: &[Arc<Step>],
     mut replies: Vec<Reply>,
 ) -> Vec<Reply>
     requires runs { parts.is_halted (state_of R.kept node.old) ≡ false }
-    requires can { R.can_go_back node.old.replica row.aside }
+    requires can { R.can_go_back node.old.replica begun.row.unwritten.aside }
     requires room { (replies.items ≡ []) × (1 + length rest.now ≤ vec_capacity replies) }
-    ensures { IsFinished (state_of R.kept node.old) (R.back node.old.replica row.aside)
-        row.dialogs.local row.records excuse answer (map arc_value rest.now) result.items
+    ensures { IsFinished (state_of R.kept node.old)
+        (R.back node.old.replica begun.row.unwritten.aside) begun.row.dialogs.local
+        begun.row.unwritten.records begun.excuse begun.answer (map arc_value rest.now) result.items
         (state_of R.kept node.new) }
 {
+    let Begun {
+        row,
+        answer,
+        excuse,
+    } = begun;
     let Row {
-        mut aside,
+        mut unwritten,
         dialogs,
-        mut records,
     } = row;
     replies.push_reserved(Ok(answer));
-    go_on(
-        alloc,
-        node,
-        &mut aside,
-        &mut records,
-        most,
-        rest,
-        &mut replies,
-    );
+    go_on(alloc, node, &mut unwritten, most, rest, &mut replies);
+    let Unwritten { aside, records } = unwritten;
     end_row(node, aside, dialogs, &records, excuse, replies)
 }
 
@@ -291,30 +323,42 @@ fn own_row<R: Replica, D: Disk + Drop>(
     node: &mut Node<R, D>,
     plan: Plan,
     excuse: Out,
-    most: Most,
-    first: &Step,
-    rest: &[Arc<Step>],
+    calls: Calls<'_>,
     replies: Vec<Reply>,
 ) -> Vec<Reply>
     requires runs { parts.is_halted (state_of R.kept node.old) ≡ false }
-    requires writer { IsWriter (state_of R.kept node.old) first.now plan excuse }
-    requires room { (replies.items ≡ []) × (1 + length rest.now ≤ vec_capacity replies) }
-    ensures { RowCall (state_of R.kept node.old) first.now (map arc_value rest.now) result.items
-        (state_of R.kept node.new) }
+    requires writer { IsWriter (state_of R.kept node.old) calls.first.now plan excuse }
+    requires room { (replies.items ≡ []) × (1 + length calls.rest.now ≤ vec_capacity replies) }
+    ensures { RowCall (state_of R.kept node.old) calls.entry.first.now
+        (map arc_value calls.entry.rest.now) result.items (state_of R.kept node.new) }
 {
-    if most.operations < plan.ops.len() {
-        return alone(replies, carry_out(alloc, node, plan, excuse));
+    if calls.most.operations < plan.ops.len() {
+        return alone(replies, write_and_apply(alloc, node, plan, excuse));
     }
     let Ok(mut row) = Row::new(alloc, node) else {
-        return alone(replies, carry_out(alloc, node, plan, excuse));
+        return alone(replies, write_and_apply(alloc, node, plan, excuse));
     };
     let Ok(excuse) = Shares::new(alloc, excuse) else {
         drop(row);
         drop(plan);
         return alone(replies, Err(Refusal::Memory));
     };
-    match carry_ahead(alloc, node, &mut row.aside, &mut row.records, plan) {
-        Ok(answer) => finish(alloc, node, row, answer, excuse, most, rest, replies),
+    let unwritten = &mut row.unwritten;
+    match carry_ahead(
+        alloc,
+        node,
+        &mut unwritten.aside,
+        &mut unwritten.records,
+        plan,
+    ) {
+        Ok(answer) => {
+            let begun = Begun {
+                row,
+                answer,
+                excuse,
+            };
+            finish(alloc, node, begun, calls.most, calls.rest, replies)
+        }
         Err(refusal) => {
             drop(row);
             drop(excuse);
@@ -339,17 +383,31 @@ fn taken_row<R: Replica, D: Disk + Drop>(
         result.items (state_of R.kept node.new) }
 {
     if delta.is_empty() || most.operations < delta.ops().len() {
-        return alone(replies, take_in(alloc, node, delta));
+        return alone(replies, write_and_take(alloc, node, delta));
     }
     let Ok(mut row) = Row::new(alloc, node) else {
-        return alone(replies, take_in(alloc, node, delta));
+        return alone(replies, write_and_take(alloc, node, delta));
     };
     let Ok(nothing) = Shares::new(alloc, Out::of_sends(alloc, Sequence::empty(alloc))) else {
         drop(row);
         return alone(replies, Err(Refusal::Memory));
     };
-    match take_ahead(alloc, node, &mut row.aside, &mut row.records, delta) {
-        Ok(answer) => finish(alloc, node, row, answer, nothing, most, rest, replies),
+    let unwritten = &mut row.unwritten;
+    match take_ahead(
+        alloc,
+        node,
+        &mut unwritten.aside,
+        &mut unwritten.records,
+        delta,
+    ) {
+        Ok(answer) => {
+            let begun = Begun {
+                row,
+                answer,
+                excuse: nothing,
+            };
+            finish(alloc, node, begun, most, rest, replies)
+        }
         Err(refusal) => {
             drop(row);
             drop(nothing);
@@ -380,9 +438,10 @@ pub(crate) fn play<R: Replica, D: Disk + Drop>(
     }
     match look(alloc, node, first) {
         Left::Told(reply) => alone(replies, reply),
-        Left::Writes(plan, excuse) => own_row(
-            alloc, node, plan, excuse, most, first, rest, replies,
-        ),
+        Left::Writes(plan, excuse) => {
+            let calls = Calls { first, rest, most };
+            own_row(alloc, node, plan, excuse, calls, replies)
+        }
         Left::Alone => alone(replies, handle_step(alloc, node, first)),
     }
 }

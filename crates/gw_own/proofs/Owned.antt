@@ -18,7 +18,7 @@ use Rattle.sn_local.specs.declared.local.LocalChange.{LocalChange}
 use Rattle.sn_local.specs.declared.local.LocalChange.TheVariants.{Bind, Unbind, Time, Heard, Sent, Resent, Retried, Ask, EndDialog, Advertised}
 use Rattle.sn_local.specs.Seen.{Seen, seen_of}
 use Rattle.sn_local.specs.Locals.{Local, after_all, owned}
-use Rattle.sn_local.specs.Bindings.{binding_cmp, is_apart, is_of_other, binding_change, bindings_after, address_of, is_stamp_of, is_owned, has_owned}
+use Rattle.sn_local.specs.Bindings.{binding_cmp, is_other_binding, is_of_other, binding_change, bindings_after, address_of, is_stamp_of, is_owned, has_owned}
 use Rattle.sn_local.specs.Timers.{timer_cmp, timer_of, heard_at, sent_at, resent_at, retried_at, timer_change, timers_after, times_owned}
 use Rattle.sn_local.proofs.Entries.{same_client-itself}
 use Rattle.sn_plan.proofs.Entered.{all-entered, all-filtered}
@@ -69,7 +69,7 @@ module _ (g : ℕ) (seen : Seen) where
       (filtered_all (has_owned g seen) local.bindings) (filtered_all (times_owned g seen) local.timers)
 
   binding_stays : (change : LocalChange) (bs : List Binding) → list_all (has_owned g seen) bs ≡ true → notes_owned g seen change ≡ true → list_all (has_owned g seen) (binding_change bs change) ≡ true
-  binding_stays (Bind a c) bs all h = all-entered (has_owned g seen) binding_cmp (record { address = a; client = c }) (filter (is_apart a c) bs) h (all-filtered (has_owned g seen) (is_apart a c) bs all)
+  binding_stays (Bind a c) bs all h = all-entered (has_owned g seen) binding_cmp (record { address = a; client = c }) (filter (is_other_binding a c) bs) h (all-filtered (has_owned g seen) (is_other_binding a c) bs all)
   binding_stays (Unbind c) bs all h = all-filtered (has_owned g seen) (is_of_other c) bs all
   binding_stays (Time timer) bs all h = all
   binding_stays (Heard c now) bs all h = all

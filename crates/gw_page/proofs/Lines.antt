@@ -34,13 +34,13 @@ use Rattle.gw_report.specs.declared.numbers.Numbers.{Numbers}
 use Rattle.gw_report.specs.declared.numbers.TheConstants.{SINGLES as all_singles, COLUMNS as all_columns}
 use Rattle.gw_report.specs.Words.{kind_word, single_name, single_help, single_kind, is_in_thousandths, column_name, column_help, column_kind, count_name, count_help, count_kind}
 use Rattle.gw_report.specs.Labels.{frame_word, call_word, answer_word, fault_word, presence_word}
-use Rattle.gw_report.specs.Numbers.{value_of, link_value}
+use Rattle.gw_report.specs.Numbers.{single_value, link_value}
 use Rattle.gw_page.specs.Texts.{◌▹◌, line_end}
 use Rattle.gw_page.specs.Expositions.{pair_text, pairs_text, label_text, place_text, help_line, type_line, head_text, number_line, sample_text, count_text, single_text, link_text, column_text, traffic_text, state_text, exposition_of}
-use Rattle.gw_page.specs.Lines.{is_name_octet, is_word_octet, is_help_octet, IsName, IsWord, IsLabel, IsHelp, IsType, IsSample, IsExposition}
+use Rattle.gw_page.specs.Lines.{is_name_octet, is_word_octet, is_help_octet, IsMetricName, IsWord, IsLabel, IsHelp, IsTypeLine, IsSample, IsExposition}
 
 -- each name, and each help, is one
-single_is_name : (it : Single) → IsName (single_name it)
+single_is_name : (it : Single) → IsMetricName (single_name it)
 unfolding single_name
 single_is_name singles.UpSeconds = refl
 single_is_name singles.Shift = refl
@@ -100,7 +100,7 @@ single_is_help singles.EventsLost = refl
 single_is_help singles.ResidentMemory = refl
 single_is_help singles.StartTime = refl
 
-column_is_name : (it : Column) → IsName (column_name it)
+column_is_name : (it : Column) → IsMetricName (column_name it)
 unfolding column_name
 column_is_name columns.Up = refl
 column_is_name columns.Number = refl
@@ -128,7 +128,7 @@ column_is_help columns.ReceivedOctets = refl
 column_is_help columns.SentOctets = refl
 column_is_help columns.DialsFailed = refl
 
-count_is_name : (it : Count) → IsName (count_name it)
+count_is_name : (it : Count) → IsMetricName (count_name it)
 unfolding count_name
 count_is_name counts.FramesReceived = refl
 count_is_name counts.DatagramsSent = refl
@@ -152,7 +152,7 @@ count_is_help counts.JournalOctets = refl
 count_is_help counts.MessagesKnown = refl
 count_is_help counts.LinkRefused = refl
 
-is_kind : (kind : Kind) → IsName (kind_word kind)
+is_kind : (kind : Kind) → IsMetricName (kind_word kind)
 unfolding kind_word
 is_kind kinds.Counter = refl
 is_kind kinds.Gauge = refl
@@ -229,10 +229,10 @@ place_is_word (places.Dialled place) = (codes "dialled-", refl, inr (place, refl
 place_is_word (places.Accepted place) = (codes "accepted-", refl, inr (place, refl))
 
 -- each label is one
-one : (key text : List ℕ) → IsName key → IsWord text → IsLabel (pair_text key text)
+one : (key text : List ℕ) → IsMetricName key → IsWord text → IsLabel (pair_text key text)
 one key text named worded = inr (inl (key, text, named, worded, refl))
 
-two : (key text second other : List ℕ) → IsName key → IsWord text → IsName second → IsWord other
+two : (key text second other : List ℕ) → IsMetricName key → IsWord text → IsMetricName second → IsWord other
     → IsLabel (pairs_text key text second other)
 two key text second other named worded also too =
     inr (inr (key, text, second, other, named, worded, also, too, refl))
@@ -261,20 +261,20 @@ is_label (labels.Origin number) = one (codes "origin") (decimal number) refl ([]
 
 -- texts of lines, one after the other
 nothing : IsExposition []
-nothing = ([], All-nil (λ line. IsHelp line ⊎ (IsType line ⊎ IsSample line)), refl)
+nothing = ([], All-nil (λ line. IsHelp line ⊎ (IsTypeLine line ⊎ IsSample line)), refl)
 
-single : (line : List ℕ) → IsHelp line ⊎ (IsType line ⊎ IsSample line) → IsExposition line
+single : (line : List ℕ) → IsHelp line ⊎ (IsTypeLine line ⊎ IsSample line) → IsExposition line
 single line known = (
   line ∷ [],
-  All-cons (λ it. IsHelp it ⊎ (IsType it ⊎ IsSample it)) line [] known
-      (All-nil (λ it. IsHelp it ⊎ (IsType it ⊎ IsSample it))),
+  All-cons (λ it. IsHelp it ⊎ (IsTypeLine it ⊎ IsSample it)) line [] known
+      (All-nil (λ it. IsHelp it ⊎ (IsTypeLine it ⊎ IsSample it))),
   sym (append-nil line),
 )
 
 both : (a b : List ℕ) → IsExposition a → IsExposition b → IsExposition (a ++ b)
 both a b (xs, every, made) (ys, too, also) = (
   xs ++ ys,
-  All-append (λ it. IsHelp it ⊎ (IsType it ⊎ IsSample it)) xs ys every too,
+  All-append (λ it. IsHelp it ⊎ (IsTypeLine it ⊎ IsSample it)) xs ys every too,
   ap₂ (λ (u v : List ℕ). u ++ v) made also ∙ sym (flat_map-append (λ (line : List ℕ). line) xs ys),
 )
 
@@ -284,21 +284,21 @@ each f every [] = nothing
 each f every (x ∷ xs) = both (f x) (flat_map f xs) (every x) (each f every xs)
 
 -- the lines of a name, and of a number
-help_is_line : (name help : List ℕ) → IsName name → IsTrue (list_all is_help_octet help)
+help_is_line : (name help : List ℕ) → IsMetricName name → IsTrue (list_all is_help_octet help)
     → IsExposition (help_line name help)
 unfolding help_line
 help_is_line name help named plain = single _ (inl (name, help, named, plain, refl))
 
-type_is_line : (name kind : List ℕ) → IsName name → IsName kind → IsExposition (type_line name kind)
+type_is_line : (name kind : List ℕ) → IsMetricName name → IsMetricName kind → IsExposition (type_line name kind)
 unfolding type_line
 type_is_line name kind named plain = single _ (inr (inl (name, kind, named, plain, refl)))
 
-head_is_lines : (name help : List ℕ) (kind : Kind) → IsName name → IsTrue (list_all is_help_octet help)
+head_is_lines : (name help : List ℕ) (kind : Kind) → IsMetricName name → IsTrue (list_all is_help_octet help)
     → IsExposition (head_text name help kind)
 head_is_lines name help kind named plain =
     both (help_line name help) (type_line name (kind_word kind)) (help_is_line name help named plain) (type_is_line name (kind_word kind) named (is_kind kind))
 
-number_is_line : (name : List ℕ) (label : Label) (in_thousandths : Bool) (value : ℕ) → IsName name
+number_is_line : (name : List ℕ) (label : Label) (in_thousandths : Bool) (value : ℕ) → IsMetricName name
     → IsExposition (number_line name label in_thousandths value)
 unfolding number_line
 number_is_line name label in_thousandths value named =
@@ -308,7 +308,7 @@ single_is_lines : (all : Singles) (it : Single) → IsExposition (single_text al
 unfolding single_text
 single_is_lines all it =
     both _ _ (head_is_lines (single_name it) (single_help it) (single_kind it) (single_is_name it) (single_is_help it))
-    (number_is_line (single_name it) labels.Bare (is_in_thousandths it) (value_of all it) (single_is_name it))
+    (number_is_line (single_name it) labels.Bare (is_in_thousandths it) (single_value all it) (single_is_name it))
 
 link_is_line : (column : Column) (link : Link) → IsExposition (link_text column link)
 link_is_line column link =

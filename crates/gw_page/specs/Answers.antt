@@ -12,7 +12,7 @@ use Rattle.gw_page.specs.declared.request.Method.{Method}
 use Rattle.gw_page.specs.declared.request.Method.TheVariants as methods
 use Rattle.gw_page.specs.declared.request.Target.{Target}
 use Rattle.gw_page.specs.declared.request.Target.TheVariants as targets
-use Rattle.gw_page.specs.Requests.{IsAsked}
+use Rattle.gw_page.specs.Requests.{IsRequestFor}
 use Rattle.gw_page.specs.Texts.{◌▹◌, line_end}
 use Rattle.gw_page.specs.Expositions.{exposition_of}
 use Rattle.gw_page.specs.Clients.{clients_text}
@@ -54,34 +54,26 @@ health_text health =
 abbrev pub shown_status : Target → Health → Status
 shown_status targets.Health health =
     if is_ill health then statuses.Unavailable else statuses.Found
-shown_status targets.Front health = statuses.Found
-shown_status targets.Metrics health = statuses.Found
-shown_status targets.Clients health = statuses.Found
-shown_status targets.Log health = statuses.Found
+shown_status target health = statuses.Found
 
 -- the status of what is asked for
-abbrev pub status_of : Asked → Health → Status
-status_of (asked.Shown method target) health = shown_status target health
-status_of (asked.Elsewhere method) health = statuses.NotFound
-status_of asked.OtherMethod health = statuses.NotAllowed
-status_of asked.TooLarge health = statuses.TooLarge
-status_of asked.Malformed health = statuses.BadRequest
+abbrev pub page_status : Asked → Health → Status
+page_status (asked.Shown method target) health = shown_status target health
+page_status (asked.Elsewhere method) health = statuses.NotFound
+page_status asked.OtherMethod health = statuses.NotAllowed
+page_status asked.TooLarge health = statuses.TooLarge
+page_status asked.Malformed health = statuses.BadRequest
 
 -- what a page is written in
 abbrev pub shown_type : Target → List ℕ
 shown_type targets.Front = codes "text/html; charset=utf-8"
 shown_type targets.Metrics = codes "text/plain; version=0.0.4; charset=utf-8"
-shown_type targets.Clients = codes "text/plain; charset=utf-8"
-shown_type targets.Log = codes "text/plain; charset=utf-8"
-shown_type targets.Health = codes "text/plain; charset=utf-8"
+shown_type target = codes "text/plain; charset=utf-8"
 
 -- what the answer is written in
-abbrev pub type_of : Asked → List ℕ
-type_of (asked.Shown method target) = shown_type target
-type_of (asked.Elsewhere method) = codes "text/plain; charset=utf-8"
-type_of asked.OtherMethod = codes "text/plain; charset=utf-8"
-type_of asked.TooLarge = codes "text/plain; charset=utf-8"
-type_of asked.Malformed = codes "text/plain; charset=utf-8"
+abbrev pub page_type : Asked → List ℕ
+page_type (asked.Shown method target) = shown_type target
+page_type request = codes "text/plain; charset=utf-8"
 
 -- a page
 abbrev pub shown_text : Target → Report → List ℕ
@@ -92,16 +84,16 @@ shown_text targets.Log report = log_text report.events
 shown_text targets.Health report = health_text report.health
 
 -- a refusal, by its status
-abbrev pub refusal_text : Status → List ℕ
-refusal_text status = status_word status ▹ line_end
+abbrev pub refusal_page : Status → List ℕ
+refusal_page status = status_word status ▹ line_end
 
 -- the body of the answer to what is asked for
-abbrev pub body_of : Asked → Report → List ℕ
-body_of (asked.Shown method target) report = shown_text target report
-body_of (asked.Elsewhere method) report = refusal_text statuses.NotFound
-body_of asked.OtherMethod report = refusal_text statuses.NotAllowed
-body_of asked.TooLarge report = refusal_text statuses.TooLarge
-body_of asked.Malformed report = refusal_text statuses.BadRequest
+abbrev pub page_body : Asked → Report → List ℕ
+page_body (asked.Shown method target) report = shown_text target report
+page_body (asked.Elsewhere method) report = refusal_page statuses.NotFound
+page_body asked.OtherMethod report = refusal_page statuses.NotAllowed
+page_body asked.TooLarge report = refusal_page statuses.TooLarge
+page_body asked.Malformed report = refusal_page statuses.BadRequest
 
 -- the first line of an answer
 unfoldable pub first_line : Status → List ℕ
@@ -134,17 +126,15 @@ sent_by methods.Head body = []
 abbrev pub sent_of : Asked → List ℕ → List ℕ
 sent_of (asked.Shown method target) body = sent_by method body
 sent_of (asked.Elsewhere method) body = sent_by method body
-sent_of asked.OtherMethod body = body
-sent_of asked.TooLarge body = body
-sent_of asked.Malformed body = body
+sent_of request body = body
 
 -- the answer to what is asked for: a head with the body's length, and the body
 abbrev pub reply_text : Asked → Report → List ℕ
 reply_text what report =
-    head_of (status_of what report.health) (type_of what) (length (body_of what report))
-    ▹ sent_of what (body_of what report)
+    head_of (page_status what report.health) (page_type what) (length (page_body what report))
+    ▹ sent_of what (page_body what report)
 
 -- the answer to a request: that to what it asks for
-abbrev pub IsAnswer : List ℕ → Report → List ℕ → Type 0
-IsAnswer request report answer =
-    (what : Asked) × IsAsked request what × (answer ≡ reply_text what report)
+abbrev pub IsReply : List ℕ → Report → List ℕ → Type 0
+IsReply request report answer =
+    (what : Asked) × IsRequestFor request what × (answer ≡ reply_text what report)

@@ -33,16 +33,16 @@ address_text address =
     ▹ codes ":" ▹ decimal address.port
 
 -- whether a session began clean
-abbrev pub kind_word : Bool → List ℕ
-kind_word true = codes "clean"
-kind_word false = codes "kept"
+abbrev pub clean_word : Bool → List ℕ
+clean_word true = codes "clean"
+clean_word false = codes "kept"
 
 -- the exchange that has begun
-abbrev pub phase_word : Option Phase → List ℕ
-phase_word None = codes "-"
-phase_word (Some phases.Registering) = codes "registering"
-phase_word (Some phases.Published) = codes "published"
-phase_word (Some phases.Released) = codes "released"
+abbrev pub exchange_word : Option Phase → List ℕ
+exchange_word None = codes "-"
+exchange_word (Some phases.Registering) = codes "registering"
+exchange_word (Some phases.Published) = codes "published"
+exchange_word (Some phases.Released) = codes "released"
 
 -- the gateway that owns the client
 abbrev pub owner_column : Option Stamp → List ℕ
@@ -53,10 +53,10 @@ owner_column (Some stamp) = tab ▹ decimal stamp.gateway
 abbrev pub session_columns : Option SessionGlimpse → List ℕ
 session_columns None = codes "\t-\t-\t-\t-\t-\t-\t-"
 session_columns (Some session) =
-    tab ▹ presence_word session.presence ▹ tab ▹ kind_word session.clean
+    tab ▹ presence_word session.presence ▹ tab ▹ clean_word session.clean
     ▹ tab ▹ decimal session.duration ▹ tab ▹ decimal session.topics
     ▹ tab ▹ decimal session.subscriptions ▹ tab ▹ decimal session.received
-    ▹ tab ▹ phase_word session.exchange
+    ▹ tab ▹ exchange_word session.exchange
 
 -- address and tries
 abbrev pub local_columns : Option LocalGlimpse → List ℕ
@@ -77,8 +77,8 @@ rest_text seen =
     ▹ number_column seen.since ▹ line_end
 
 -- the line of a client, which begins with its id in hexadecimal digits
-abbrev pub client_text : Seen → List ℕ
-client_text seen =
+abbrev pub client_page_line : Seen → List ℕ
+client_page_line seen =
     encode_lower seen.glimpse.client ▹ tab ▹ plain_text seen.glimpse.client ▹ rest_text seen
 
 -- what the columns are
@@ -89,4 +89,4 @@ columns_text =
 
 -- what the columns are, and a line for each client
 abbrev pub clients_text : List Seen → List ℕ
-clients_text clients = columns_text ▹ flat_map client_text clients
+clients_text clients = columns_text ▹ flat_map client_page_line clients

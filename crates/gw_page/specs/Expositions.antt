@@ -20,7 +20,7 @@ use Rattle.gw_report.specs.declared.numbers.Numbers.{Numbers}
 use Rattle.gw_report.specs.declared.numbers.TheConstants.{SINGLES as all_singles, COLUMNS as all_columns}
 use Rattle.gw_report.specs.Words.{kind_word, single_name, single_help, single_kind, is_in_thousandths, column_name, column_help, column_kind, count_name, count_help, count_kind}
 use Rattle.gw_report.specs.Labels.{frame_word, call_word, answer_word, fault_word, presence_word}
-use Rattle.gw_report.specs.Numbers.{value_of, link_value}
+use Rattle.gw_report.specs.Numbers.{single_value, link_value}
 use Rattle.gw_page.specs.Texts.{◌▹◌, line_end}
 
 -- a label of one word
@@ -100,7 +100,8 @@ number_line name label in_thousandths value =
 unfoldable pub single_text : Singles → Single → List ℕ
 single_text all single =
     head_text (single_name single) (single_help single) (single_kind single)
-    ▹ number_line (single_name single) labels.Bare (is_in_thousandths single) (value_of all single)
+    ▹ number_line (single_name single) labels.Bare (is_in_thousandths single)
+    (single_value all single)
 
 -- a number of a place of a link
 abbrev pub link_text : Column → Link → List ℕ

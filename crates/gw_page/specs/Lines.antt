@@ -19,8 +19,8 @@ abbrev pub is_help_octet : ℕ → Bool
 is_help_octet octet = nat_le 32 octet && nat_le octet 126 && not (octet == 92)
 
 -- the text is a name
-abbrev pub IsName : List ℕ → Type 0
-IsName text = IsTrue (list_all is_name_octet text)
+abbrev pub IsMetricName : List ℕ → Type 0
+IsMetricName text = IsTrue (list_all is_name_octet text)
 
 -- the text is a word, or a word and a number
 abbrev pub IsWord : List ℕ → Type 0
@@ -32,30 +32,32 @@ IsWord text =
 abbrev pub IsLabel : List ℕ → Type 0
 IsLabel text =
     (text ≡ [])
-    ⊎ (((key word : List ℕ) × IsName key × IsWord word × (text ≡ pair_text key word))
-    ⊎ ((key word second other : List ℕ) × IsName key × IsWord word × IsName second × IsWord other
+    ⊎ (((key word : List ℕ) × IsMetricName key × IsWord word × (text ≡ pair_text key word))
+    ⊎ ((key word second other : List ℕ) × IsMetricName key × IsWord word × IsMetricName second
+    × IsWord other
     × (text ≡ pairs_text key word second other)))
 
 -- the line says what a name is
 abbrev pub IsHelp : List ℕ → Type 0
 IsHelp line =
-    (name words : List ℕ) × IsName name × IsTrue (list_all is_help_octet words)
+    (name words : List ℕ) × IsMetricName name × IsTrue (list_all is_help_octet words)
     × (line ≡ codes "# HELP nimhazel_" ▹ name ▹ codes " " ▹ words ▹ line_end)
 
 -- the line says whether the numbers of a name only grow
-abbrev pub IsType : List ℕ → Type 0
-IsType line =
-    (name word : List ℕ) × IsName name × IsName word
+abbrev pub IsTypeLine : List ℕ → Type 0
+IsTypeLine line =
+    (name word : List ℕ) × IsMetricName name × IsMetricName word
     × (line ≡ codes "# TYPE nimhazel_" ▹ name ▹ codes " " ▹ word ▹ line_end)
 
 -- the line is a number of a name
 abbrev pub IsSample : List ℕ → Type 0
 IsSample line =
-    (name label : List ℕ) × (in_thousandths : Bool) × (value : ℕ) × IsName name × IsLabel label
+    (name label : List ℕ) × (in_thousandths : Bool) × (value : ℕ) × IsMetricName name
+    × IsLabel label
     × (line ≡ codes "nimhazel_" ▹ name ▹ label ▹ value_text in_thousandths value)
 
 -- the text is lines, each of which says what a name is, or is a number
 abbrev pub IsExposition : List ℕ → Type 0
 IsExposition text =
-    (lines : List (List ℕ)) × All (λ line. IsHelp line ⊎ (IsType line ⊎ IsSample line)) lines
+    (lines : List (List ℕ)) × All (λ line. IsHelp line ⊎ (IsTypeLine line ⊎ IsSample line)) lines
     × (text ≡ flat_map (λ line. line) lines)

@@ -40,8 +40,8 @@ IsHeadOf octets what =
     × (what ≡ asked_by (method_of head.method) (target_of head.target))
 
 -- what the octets of a request ask for
-abbrev pub IsAsked : List ℕ → Asked → Type 0
-IsAsked octets what =
+abbrev pub IsRequestFor : List ℕ → Asked → Type 0
+IsRequestFor octets what =
     ((what ≡ asked.TooLarge)
     × ((MOST_OCTETS < length octets) ⊎ RequestExceeds MOST_FIELDS octets))
     ⊎ (((what ≡ asked.Malformed) × (length octets ≤ MOST_OCTETS) × HasNoRequest octets)

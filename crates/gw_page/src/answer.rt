@@ -1,7 +1,7 @@
 //! What the page answers.
 
 ghost use Rattle.std.specs.Prelude.{◌≡◌, ◌++◌, IfOk, OnOk, string_bytes};
-ghost use Rattle.gw_page.specs.Answers.{IsAnswer, reply_text, body_of, shown_text, refusal_text, health_text, complaint, first_line, type_field, length_field, last_fields, head_of, sent_of, status_word, shown_status, status_of, shown_type, type_of};
+ghost use Rattle.gw_page.specs.Answers.{IsReply, reply_text, page_body, shown_text, refusal_page, health_text, complaint, first_line, type_field, length_field, last_fields, head_of, sent_of, status_word, shown_status, page_status, shown_type, page_type};
 ghost use Rattle.gw_page.specs.Answers as spec;
 
 use super::clients::clients;
@@ -65,7 +65,7 @@ impl Status {
 /// The answer to a request, whose octets are all that came of it: HTTP/1.0, with the body's length,
 /// after which the connection is to be closed. Any octets are answered; only memory can run out.
 pub fn page(alloc: Global, request: &[u8], report: &Report) -> Result<Vec<u8>, NoMemory>
-    ensures { IfOk result (λ answer. IsAnswer request.now report.now answer.items) }
+    ensures { IfOk result (λ answer. IsReply request.now report.now answer.items) }
 {
     let what = read_request(request);
     reply(alloc, what, report)
@@ -88,7 +88,7 @@ fn reply(alloc: Global, what: Asked, report: &Report) -> Result<Vec<u8>, NoMemor
 
 /// The body of the answer to what is asked for.
 fn reply_body(alloc: Global, what: Asked, report: &Report) -> Result<Vec<u8>, NoMemory>
-    ensures { IfOk result (λ text. text.items ≡ body_of what report.now) }
+    ensures { IfOk result (λ text. text.items ≡ page_body what report.now) }
 {
     match what {
         Asked::Shown { target, .. } => shown(alloc, target, report),
@@ -114,7 +114,7 @@ fn shown(alloc: Global, target: Target, report: &Report) -> Result<Vec<u8>, NoMe
 
 /// A refusal, by its status.
 fn refusal(alloc: Global, status: Status) -> Result<Vec<u8>, NoMemory>
-    ensures { IfOk result (λ text. text.items ≡ refusal_text status) }
+    ensures { IfOk result (λ text. text.items ≡ refusal_page status) }
 {
     let word = status.word();
     let text = format!(in alloc; "{word}\n")?;
@@ -229,7 +229,7 @@ fn sent_by(method: Method, body: &[u8]) -> &[u8]
 
 /// The status of what is asked for.
 fn reply_status(what: Asked, health: Health) -> Status
-    ensures { result ≡ status_of what health }
+    ensures { result ≡ page_status what health }
 {
     match what {
         Asked::Shown { target, .. } => status_shown(target, health),
@@ -261,7 +261,7 @@ fn status_shown(target: Target, health: Health) -> Status
 
 /// What the answer is written in.
 fn reply_type(what: Asked) -> &'static str
-    ensures { result.now ≡ type_of what }
+    ensures { result.now ≡ page_type what }
 {
     match what {
         Asked::Shown { target, .. } => type_shown(target),

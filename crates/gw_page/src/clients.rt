@@ -6,7 +6,7 @@
 ghost use Rattle.std.specs.Prelude.{◌≡◌, ◌++◌, IfOk, OnOk, flat_map, string_bytes};
 ghost use Rattle.std.specs.List.{list_all};
 ghost use Rattle.gw_page.specs.Texts.{number_column};
-ghost use Rattle.gw_page.specs.Clients.{columns_text, clients_text, client_text, rest_text, owner_column, session_columns, local_columns, first_column, address_text};
+ghost use Rattle.gw_page.specs.Clients.{columns_text, clients_text, client_page_line, rest_text, owner_column, session_columns, local_columns, first_column, address_text};
 ghost use Rattle.gw_page.specs.Clients as spec;
 
 use gw_report::{First, LocalGlimpse, Seen, SessionGlimpse, presence_word};
@@ -39,7 +39,7 @@ fn columns(alloc: Global) -> Result<Vec<u8>, AllocError>
 
 /// A line for each client.
 fn print_clients(alloc: Global, text: &mut Vec<u8>, seen: &[Seen]) -> Result<(), NoMemory>
-    ensures { OnOk result (text.new.items ≡ text.old.items ++ flat_map client_text seen.now) }
+    ensures { OnOk result (text.new.items ≡ text.old.items ++ flat_map client_page_line seen.now) }
 {
     for client in seen {
         print_client(alloc, text, client)?;
@@ -49,7 +49,7 @@ fn print_clients(alloc: Global, text: &mut Vec<u8>, seen: &[Seen]) -> Result<(),
 
 /// The line of a client.
 fn print_client(alloc: Global, text: &mut Vec<u8>, seen: &Seen) -> Result<(), NoMemory>
-    ensures { OnOk result (text.new.items ≡ text.old.items ++ client_text seen.now) }
+    ensures { OnOk result (text.new.items ≡ text.old.items ++ client_page_line seen.now) }
 {
     let id = seen.glimpse.client.bytes();
     let digits = hex::encode(alloc, id)?;
@@ -136,26 +136,26 @@ fn print_session(text: &mut String, session: Option<SessionGlimpse>) -> Result<(
         return text.push_str("\t-\t-\t-\t-\t-\t-\t-");
     };
     let presence = presence_word(session.presence);
-    let kind = kind_word(session.clean);
+    let kind = clean_word(session.clean);
     let duration = session.duration;
     let topics = session.topics;
     write!(text, "\t{presence}\t{kind}\t{duration}\t{topics}")?;
     let filters = session.subscriptions;
     let received = session.received;
-    let exchange = phase_word(session.exchange);
+    let exchange = exchange_word(session.exchange);
     write!(text, "\t{filters}\t{received}\t{exchange}")
 }
 
 /// How it is written whether a session began clean.
-fn kind_word(clean: bool) -> &'static str
-    ensures { result.now ≡ spec.kind_word clean }
+fn clean_word(clean: bool) -> &'static str
+    ensures { result.now ≡ spec.clean_word clean }
 {
     if clean { "clean" } else { "kept" }
 }
 
 /// How the exchange that has begun is written.
-fn phase_word(exchange: Option<Phase>) -> &'static str
-    ensures { result.now ≡ spec.phase_word exchange }
+fn exchange_word(exchange: Option<Phase>) -> &'static str
+    ensures { result.now ≡ spec.exchange_word exchange }
 {
     match exchange {
         None => "-",

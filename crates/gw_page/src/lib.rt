@@ -14,7 +14,7 @@
 //! - `front`: the page at `/`.
 //! - `laws`: of the numbers' text.
 //!
-//! The definitions are in `specs/`: `Requests`, `Answers` (`IsAnswer` is what `page` promises),
+//! The definitions are in `specs/`: `Requests`, `Answers` (`IsReply` is what `page` promises),
 //! `Expositions`, `Clients`, `Logs` (the texts), `Lines` (what a line of the numbers may be),
 //! `Texts` (words of texts).
 #![tactic(auto)]

@@ -6,7 +6,7 @@
 ghost use Rattle.std.specs.Prelude.{◌≡◌, length};
 ghost use Rattle.std.specs.Bool.{MatchBool};
 ghost use Rattle.httparse.specs.Spans.{IsWithin, span_bytes};
-ghost use Rattle.gw_page.specs.Requests.{method_of, target_of, asked_by, IsAsked, MayGrow, IsEnough};
+ghost use Rattle.gw_page.specs.Requests.{method_of, target_of, asked_by, IsRequestFor, MayGrow, IsEnough};
 
 use httparse::spans::{EMPTY_HEADER_SPAN, RequestSpans, parse_request};
 use httparse::{Error, Status};
@@ -66,7 +66,7 @@ pub enum Asked {
 
 /// What the octets of a request ask for, be they all that ever came.
 pub fn read_request(octets: &[u8]) -> Asked
-    ensures { IsAsked octets.now result }
+    ensures { IsRequestFor octets.now result }
 {
     if octets.len() > MOST_OCTETS {
         return Asked::TooLarge;

@@ -7,7 +7,7 @@ use Rattle.gw_script.specs.Commands.{lines_of}
 use Rattle.gw_script.specs.Scripts.{IsScriptOf}
 
 -- the text is a script, and its events lead its gateways, from their start, to these answers
-pub record IsAnswered (text : List ℕ) (answers : List Answer) : Type 0 where
+pub record IsPlayed (text : List ℕ) (answers : List Answer) : Type 0 where
   pub script : Script
   pub said : IsScriptOf (lines_of text) script
   pub field : Field

@@ -2,7 +2,7 @@
 use Rattle.std.specs.Prelude.{ℕ, ◌+◌, ◌==◌, ◌∷◌, ◌++◌, if◌then◌else◌, List, [], Option, Some, Result, Ok, Err, Bool, true, false, codes, map, flat_map, length}
 use Rattle.std.specs.Option.{option_to_list}
 use Rattle.std.specs.Fmt.{decimal}
-use Rattle.sn_frame.specs.Faults.{fault_number}
+use Rattle.sn_frame.specs.Faults.{frame_fault_number}
 use Rattle.sn_session.specs.declared.presence.Presence.{Presence}
 use Rattle.sn_session.specs.declared.presence.Presence.TheVariants as presences
 use Rattle.sn_session.specs.declared.session.Session.{Session}
@@ -35,8 +35,8 @@ delta_lines before [] = []
 delta_lines before (delta ∷ rest) = delta_line (before + 1) ▹ delta_lines (before + 1) rest
 
 -- the deltas by which a step or an answer to a digest made the list longer
-abbrev pub joined : Out → List (List Op)
-joined out = option_to_list out.made ++ out.answer
+abbrev pub deltas_of_out : Out → List (List Op)
+deltas_of_out out = option_to_list out.made ++ out.answer
 
 -- the datagrams and the deltas; nothing of both is quiet
 abbrev pub done_text : List Send → ℕ → List (List Op) → List ℕ
@@ -45,11 +45,11 @@ done_text sends before deltas = flat_map send_line sends ▹ delta_lines before 
 
 -- what a gateway did
 abbrev pub out_text : ℕ → Out → List ℕ
-out_text before out = done_text out.sends before (joined out)
+out_text before out = done_text out.sends before (deltas_of_out out)
 
 -- a refusal, by its number; what is sent all the same comes before it
 abbrev pub refusal_text : Refusal → List ℕ
-refusal_text (refusals.Frame fault) = codes "refused N1 F" ▹ decimal (fault_number fault) ▹ line_end
+refusal_text (refusals.Frame fault) = codes "refused N1 F" ▹ decimal (frame_fault_number fault) ▹ line_end
 refusal_text refusals.Halted = codes "refused N2" ▹ line_end
 refusal_text (refusals.Disk excuse) =
     flat_map send_line excuse.sends ▹ codes "refused N3" ▹ line_end
@@ -60,17 +60,17 @@ refusal_text refusals.Memory = codes "refused N7" ▹ line_end
 refusal_text (refusals.Journal fault) = codes "refused N8" ▹ line_end
 
 -- the word for what a client is
-abbrev pub presence_word : Presence → List ℕ
-presence_word presences.Active = codes "active"
-presence_word presences.Asleep = codes "asleep"
-presence_word presences.Awake = codes "awake"
-presence_word presences.Disconnected = codes "disconnected"
-presence_word presences.Lost = codes "lost"
+abbrev pub presence_text : Presence → List ℕ
+presence_text presences.Active = codes "active"
+presence_text presences.Asleep = codes "asleep"
+presence_text presences.Awake = codes "awake"
+presence_text presences.Disconnected = codes "disconnected"
+presence_text presences.Lost = codes "lost"
 
 -- whether the session began clean
-abbrev pub kind_word : Bool → List ℕ
-kind_word true = codes "clean"
-kind_word false = codes "kept"
+abbrev pub session_word : Bool → List ℕ
+session_word true = codes "clean"
+session_word false = codes "kept"
 
 -- a stamp: epoch and gateway
 abbrev pub stamp_text : Stamp → List ℕ
@@ -79,7 +79,7 @@ stamp_text stamp = decimal stamp.epoch ▹ codes "." ▹ decimal stamp.gateway
 -- what a session itself says: presence, clean or not, duration, next message id
 abbrev pub session_text : Session → List ℕ
 session_text session =
-    presence_word session.presence ▹ codes " " ▹ kind_word session.clean ▹ codes " "
+    presence_text session.presence ▹ codes " " ▹ session_word session.clean ▹ codes " "
     ▹ decimal session.duration ▹ codes " next "
     ▹ decimal session.next_id
 
@@ -139,7 +139,7 @@ said_text before (Err refusal) = refusal_text refusal
 
 -- how many deltas there are after it
 abbrev pub deltas_behind : ℕ → Result Out Refusal → ℕ
-deltas_behind before (Ok out) = before + length (joined out)
+deltas_behind before (Ok out) = before + length (deltas_of_out out)
 deltas_behind before (Err refusal) = before
 
 -- what a gateway answered to calls that came together: each as if it had come alone
@@ -165,9 +165,7 @@ answer_text before answers.Nothing = codes "quiet" ▹ line_end
 abbrev pub deltas_after : ℕ → Answer → ℕ
 deltas_after before (answers.Node answer) = deltas_behind before (said answer)
 deltas_after before (answers.Row all) = row_behind before (map said all)
-deltas_after before (answers.Views views topics) = before
-deltas_after before (answers.Records count) = before
-deltas_after before answers.Nothing = before
+deltas_after before answer = before
 
 -- answers in their order
 abbrev pub answers_text : ℕ → List Answer → List ℕ

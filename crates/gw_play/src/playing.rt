@@ -3,7 +3,7 @@
 ghost use Rattle.std.specs.Prelude.{◌≡◌, ◌+◌, ◌≤◌, ◌^◌, IfOk, OnOk, IfSome, List, ◌⊎◌, string_bytes};
 ghost use Rattle.std.specs.Io.KnownBytes.{IsAtEnd, Appends};
 ghost use Rattle.gw_world.specs.declared.event.Answer.{Answer};
-ghost use Rattle.gw_play.specs.Playing.{IsAnswered};
+ghost use Rattle.gw_play.specs.Playing.{IsPlayed};
 ghost use Rattle.gw_play.specs.inner.Playing.{IsOutcome};
 ghost use Rattle.gw_play.specs.Printing.{answers_text};
 
@@ -24,7 +24,7 @@ pub fn play<S: Source, W: Write>(alloc: Global, source: &mut S, writer: &mut W) 
     ensures status { result ≤ 1 }
     // What is written is what the gateways answered, and nothing else.
     ensures printed { result ≡ 0 → IfSome (S.remaining source.old) (λ text. (answers : List Answer)
-        × IsAnswered text answers × Appends (W.contents writer.old) (W.contents writer.new)
+        × IsPlayed text answers × Appends (W.contents writer.old) (W.contents writer.new)
         (answers_text 0 answers)) }
 {
     play_with::<Held, S, W>(alloc, source, writer)
@@ -41,7 +41,7 @@ pub fn play_with<R: Replica, S: Source, W: Write>(
     ensures status { result ≤ 1 }
     // What is written is what the gateways answered, and nothing else.
     ensures printed { result ≡ 0 → IfSome (S.remaining source.old) (λ text. (answers : List Answer)
-        × IsAnswered text answers × Appends (W.contents writer.old) (W.contents writer.new)
+        × IsPlayed text answers × Appends (W.contents writer.old) (W.contents writer.new)
         (answers_text 0 answers)) }
 {
     let text = match read_all(alloc, source) {

@@ -4,10 +4,10 @@
 
 ghost use Rattle.std.specs.Prelude.{◌≡◌, ◌+◌, ◌++◌, map, IfOk, OnOk, flat_map, length, string_bytes};
 ghost use Rattle.std.specs.Option.{option_to_list};
-ghost use Rattle.gw_play.specs.Printing.{answers_text, answer_text, said_text, deltas_behind, row_text, row_behind, deltas_after, out_text, joined, delta_line, delta_lines, send_line, refusal_text, records_line, views_text, client_text, client_line, stamp_text, session_text, session_lines, moment_text, put_line, retained_line};
+ghost use Rattle.gw_play.specs.Printing.{answers_text, answer_text, said_text, deltas_behind, row_text, row_behind, deltas_after, out_text, deltas_of_out, delta_line, delta_lines, send_line, refusal_text, records_line, views_text, client_text, client_line, stamp_text, session_text, session_lines, moment_text, put_line, retained_line};
 ghost use Rattle.gw_play.specs.Printing as spec;
 ghost use Rattle.gw_play.specs.inner.Printing.{world_fault_line, bad_line_text, bad_call_text};
-ghost use Rattle.gw_answer.specs.Answers.{told, said};
+ghost use Rattle.gw_answer.specs.Answers.{refusal_of_fault, said};
 
 use super::session_lines::print_tables;
 use super::text::hexadecimal;
@@ -117,7 +117,7 @@ fn print_out(
 ) -> Result<usize, AllocError>
     ensures text { OnOk result (string_bytes text.new ≡ string_bytes text.old ++ out_text
         before out.now) }
-    ensures deltas { IfOk result (λ after. after ≡ before + length (joined out.now)) }
+    ensures deltas { IfOk result (λ after. after ≡ before + length (deltas_of_out out.now)) }
 {
     if out.sends.is_empty() && out.made.is_none() && out.answer.is_empty() {
         text.push_str("quiet\n")?;
@@ -190,7 +190,7 @@ fn print_send(alloc: Global, text: &mut String, send: &Send) -> Result<(), Alloc
 /// The lines of a refusal.
 fn print_fault(alloc: Global, text: &mut String, fault: &NodeFault) -> Result<(), AllocError>
     ensures { OnOk result (string_bytes text.new ≡ string_bytes text.old ++ refusal_text
-        (told fault.now)) }
+        (refusal_of_fault fault.now)) }
 {
     match fault {
         NodeFault::Frame { fault } => {
@@ -334,23 +334,23 @@ fn stamp_of(alloc: Global, stamp: Stamp) -> Result<String, AllocError>
 fn session_of(alloc: Global, session: &Session) -> Result<String, AllocError>
     ensures { IfOk result (λ text. string_bytes text ≡ session_text session.now) }
 {
-    let presence = presence_word(session.presence);
-    let kind = kind_word(session.clean);
+    let presence = presence_text(session.presence);
+    let kind = session_word(session.clean);
     let duration = session.duration;
     let next = session.next_id;
     format!(in alloc; "{presence} {kind} {duration} next {next}")
 }
 
 /// How it is written whether a session began clean.
-fn kind_word(clean: bool) -> &'static str
-    ensures { result.now ≡ spec.kind_word clean }
+fn session_word(clean: bool) -> &'static str
+    ensures { result.now ≡ spec.session_word clean }
 {
     if clean { "clean" } else { "kept" }
 }
 
 /// How a presence is written.
-fn presence_word(presence: Presence) -> &'static str
-    ensures { result.now ≡ spec.presence_word presence }
+fn presence_text(presence: Presence) -> &'static str
+    ensures { result.now ≡ spec.presence_text presence }
 {
     match presence {
         Presence::Active => "active",

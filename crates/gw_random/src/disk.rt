@@ -3,7 +3,7 @@
 use super::copying::append_copy;
 use super::drive::Left;
 use super::field::{Field, Played};
-use super::judge::{What, delta_at, held_of};
+use super::judge::{Progress, What, delta_at, held_of};
 use super::row::append_put;
 use super::seat::Seat;
 use gw_world::{Answer, Event, NodeFault};
@@ -57,11 +57,8 @@ fn base_of(alloc: Global, seat: &Seat) -> Result<u64, NoMemory> {
 /// that are none may be refused, what would pass a limit, and what meets a disk that fails.
 pub(crate) fn follow_fault<R: Replica>(
     alloc: Global,
-    field: &Field,
-    events: &[Event],
-    played: &Played,
+    progress: Progress<'_>,
     seat: &mut Seat,
-    at: usize,
     place: usize,
     event: &Event,
     fault: &NodeFault,
@@ -71,9 +68,7 @@ pub(crate) fn follow_fault<R: Replica>(
             Ok(differs_unless(may_go_on(seat, event), What::Halted))
         }
         NodeFault::Halted => Ok(differs_unless(seat.drive.is_halted(), What::Halted)),
-        NodeFault::Disk { .. } => {
-            follow_failure::<R>(alloc, field, events, played, seat, at, place, event)
-        }
+        NodeFault::Disk { .. } => follow_failure::<R>(alloc, progress, seat, place, event),
         NodeFault::Conflict { .. } | NodeFault::Journal { .. } => Ok(Some(What::Refused)),
         NodeFault::Memory => Ok(Some(What::Stopped)),
     }
@@ -82,11 +77,8 @@ pub(crate) fn follow_fault<R: Replica>(
 /// A write failed.
 fn follow_failure<R: Replica>(
     alloc: Global,
-    field: &Field,
-    events: &[Event],
-    played: &Played,
+    progress: Progress<'_>,
     seat: &mut Seat,
-    at: usize,
     place: usize,
     event: &Event,
 ) -> Result<Option<What>, NoMemory> {
@@ -96,8 +88,7 @@ fn follow_failure<R: Replica>(
     let Some(failure) = seat.drive.failure else {
         return Ok(Some(What::Disk));
     };
-    let first = failure.first;
-    let refused = refused_by::<R>(alloc, field, events, played, at, place, event, first)?;
+    let refused = refused_by::<R>(alloc, progress, place, event, failure.first)?;
     let is_right = matches!(event, Event::Compact { .. }) || !refused.is_empty();
     seat.drive.fail(refused);
     Ok(differs_unless(is_right, What::Disk))
@@ -107,10 +98,7 @@ fn follow_failure<R: Replica>(
 /// those behind it; none where that was a compaction, or the call writes nothing.
 fn refused_by<R: Replica>(
     alloc: Global,
-    field: &Field,
-    events: &[Event],
-    played: &Played,
-    at: usize,
+    progress: Progress<'_>,
     place: usize,
     event: &Event,
     first: usize,
@@ -119,7 +107,7 @@ fn refused_by<R: Replica>(
     if matches!(event, Event::Compact { .. }) {
         return Ok(refused);
     }
-    match append_refused::<R>(alloc, &mut refused, field, events, played, at, place, first) {
+    match append_refused::<R>(alloc, &mut refused, progress, place, first) {
         Ok(()) => Ok(refused),
         Err(fault) => {
             drop(refused);
@@ -149,24 +137,30 @@ pub(crate) fn append_delta(
     }
 }
 
-/// Appends what the event of this index puts into the journal, from the call in this place on,
-/// where no failure was arranged for its gateway from the event `first` on.
+/// Appends what the event up to which the run is compared puts into the journal, from the call in
+/// this place on, if no failure was arranged for its gateway from the event `first` on.
 fn append_refused<R: Replica>(
     alloc: Global,
     refused: &mut Vec<Delta>,
-    field: &Field,
-    events: &[Event],
-    played: &Played,
-    at: usize,
+    progress: Progress<'_>,
     place: usize,
     first: usize,
 ) -> Result<(), NoMemory> {
-    let Some(last) = events.get(at) else {
+    let run = progress.run;
+    let at = progress.at;
+    let Some(last) = run.events.get(at) else {
         return Ok(());
     };
     let mut calm = Vec::new(alloc);
-    let done = match append_calm(alloc, &mut calm, events, at, last.gateway(), first) {
-        Ok(()) => append_last::<R>(alloc, refused, field, calm.as_slice(), played, place),
+    let done = match append_calm(alloc, &mut calm, run.events, at, last.gateway(), first) {
+        Ok(()) => append_last::<R>(
+            alloc,
+            refused,
+            run.field,
+            calm.as_slice(),
+            run.played,
+            place,
+        ),
         Err(fault) => Err(fault),
     };
     drop(calm);

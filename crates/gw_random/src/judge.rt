@@ -76,6 +76,28 @@ impl What {
     }
 }
 
+/// A run that is compared with the definitions.
+#[derive(Clone, Copy)]
+pub(crate) struct Run<'a> {
+    /// The gateways.
+    pub(crate) field: &'a Field,
+    /// The events that were played.
+    pub(crate) events: &'a [Event],
+    /// What they answered.
+    pub(crate) played: &'a Played,
+}
+
+/// A run, and the event up to which it is compared.
+#[derive(Clone, Copy)]
+pub(crate) struct Progress<'a> {
+    /// The run.
+    pub(crate) run: Run<'a>,
+    /// The index of the event.
+    pub(crate) at: usize,
+    /// How many deltas are listed after it, or after the call of it that is compared.
+    pub(crate) listed: u64,
+}
+
 /// The seats of a field's gateways.
 #[derive(Drop)]
 struct Seats {
@@ -92,7 +114,12 @@ pub(crate) fn judged<R: Replica>(
     played: &Played,
 ) -> Result<Option<Difference>, NoMemory> {
     let mut seats = Seats::empty(alloc, field.gateways)?;
-    let found = seats.judge::<R>(alloc, field, events, played);
+    let run = Run {
+        field,
+        events,
+        played,
+    };
+    let found = seats.judge::<R>(alloc, run);
     drop(seats);
     found
 }
@@ -125,16 +152,14 @@ impl Seats {
     fn judge<R: Replica>(
         &mut self,
         alloc: Global,
-        field: &Field,
-        events: &[Event],
-        played: &Played,
+        run: Run<'_>,
     ) -> Result<Option<Difference>, NoMemory> {
-        if let Some(difference) = self.follow_all::<R>(alloc, field, events, played)? {
+        if let Some(difference) = self.follow_all::<R>(alloc, run)? {
             return Ok(Some(difference));
         }
-        let at = events.len();
-        let gateway = field.gateways;
-        let settled = self.settled(alloc, played)?;
+        let at = run.events.len();
+        let gateway = run.field.gateways;
+        let settled = self.settled(alloc, run.played)?;
         Ok(settled.map(|what| Difference { at, gateway, what }))
     }
 
@@ -142,12 +167,10 @@ impl Seats {
     fn follow_all<R: Replica>(
         &mut self,
         alloc: Global,
-        field: &Field,
-        events: &[Event],
-        played: &Played,
+        run: Run<'_>,
     ) -> Result<Option<Difference>, NoMemory> {
-        for (at, event) in events.iter().enumerate() {
-            if let Some(what) = self.follow::<R>(alloc, field, events, played, at, event)? {
+        for (at, event) in run.events.iter().enumerate() {
+            if let Some(what) = self.follow::<R>(alloc, run, at, event)? {
                 let gateway = event.gateway();
                 return Ok(Some(Difference { at, gateway, what }));
             }
@@ -159,18 +182,16 @@ impl Seats {
     fn follow<R: Replica>(
         &mut self,
         alloc: Global,
-        field: &Field,
-        events: &[Event],
-        played: &Played,
+        run: Run<'_>,
         at: usize,
         event: &Event,
     ) -> Result<Option<What>, NoMemory> {
-        let count = added_at(played.answers.as_slice(), at);
+        let count = added_at(run.played.answers.as_slice(), at);
         let listed = self.listed.saturating_add(count);
         self.listed = listed;
         let place = usize::from(event.gateway().saturating_sub(1));
         match self.seats.get_mut(place) {
-            Some(seat) => follow_at::<R>(alloc, field, events, played, seat, listed, at, event),
+            Some(seat) => follow_at::<R>(alloc, Progress { run, at, listed }, seat, event),
             None => Ok(Some(What::Stopped)),
         }
     }
@@ -229,35 +250,29 @@ fn show_same(played: &Played, one: &Seat, other: &Seat) -> bool {
     }
 }
 
-/// A gateway answered to the event of this index. So many deltas are listed then. What differs, if
-/// something does.
+/// A gateway answered to the event up to which the run is compared. What differs, if something does.
 fn follow_at<R: Replica>(
     alloc: Global,
-    field: &Field,
-    events: &[Event],
-    played: &Played,
+    progress: Progress<'_>,
     seat: &mut Seat,
-    listed: u64,
-    at: usize,
     event: &Event,
 ) -> Result<Option<What>, NoMemory> {
-    let Some(answer) = played.answers.as_slice().get(at) else {
+    let run = progress.run;
+    let at = progress.at;
+    let Some(answer) = run.played.answers.as_slice().get(at) else {
         return Ok(None);
     };
     match answer {
-        Answer::Node(Ok(out)) => follow_out(alloc, seat, played, listed, event, out),
-        Answer::Node(Err(fault)) => {
-            follow_fault::<R>(alloc, field, events, played, seat, at, 0, event, fault)
+        Answer::Node(Ok(out)) => {
+            follow_out(alloc, seat, run.played, progress.listed, event, out)
         }
+        Answer::Node(Err(fault)) => follow_fault::<R>(alloc, progress, seat, 0, event, fault),
         Answer::Views(views, topics) => {
             let (views, topics) = (views.as_slice(), topics.as_slice());
-            Ok(follow_shown(events, seat, played, at, views, topics))
+            Ok(follow_shown(run.events, seat, run.played, at, views, topics))
         }
         Answer::Row(answers) => {
-            let answers = answers.as_slice();
-            follow_row::<R>(
-                alloc, field, events, played, seat, listed, at, event, answers,
-            )
+            follow_row::<R>(alloc, progress, seat, event, answers.as_slice())
         }
         Answer::Records(told) => follow_restart(alloc, seat, event, *told),
         Answer::Nothing => Ok(arranged(seat, at, event)),

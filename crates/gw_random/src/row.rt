@@ -1,8 +1,8 @@
 //! Calls that come to a gateway together: each as an event by itself, and what they come to.
 
 use super::disk::{append_delta, follow_fault};
-use super::field::{Field, Played, has_made, made_by_row};
-use super::judge::{What, delta_at, follow_out};
+use super::field::{Played, has_made, made_by_row};
+use super::judge::{Progress, What, delta_at, follow_out};
 use super::seat::Seat;
 use gw_world::{Answer, Call, Event, NodeFault, Out};
 use octets::NoMemory;
@@ -54,16 +54,11 @@ pub(crate) fn calls_of(event: &Event) -> &[Call] {
     }
 }
 
-/// A gateway answered to calls that came together. So many deltas are listed behind them. What
-/// differs, if something does.
+/// A gateway answered to calls that came together. What differs, if something does.
 pub(crate) fn follow_row<R: Replica>(
     alloc: Global,
-    field: &Field,
-    events: &[Event],
-    played: &Played,
+    progress: Progress<'_>,
     seat: &mut Seat,
-    listed: u64,
-    at: usize,
     event: &Event,
     answers: &[Result<Arc<Out>, NodeFault>],
 ) -> Result<Option<What>, NoMemory> {
@@ -71,16 +66,16 @@ pub(crate) fn follow_row<R: Replica>(
     if calls.len() != answers.len() {
         return Ok(Some(What::Stopped));
     }
-    let mut number = listed.saturating_sub(made_by_row(answers));
+    let run = progress.run;
+    let at = progress.at;
+    let mut listed = progress.listed.saturating_sub(made_by_row(answers));
     for place in 0..calls.len() {
         if has_made(&answers[place]) {
-            number = number.saturating_add(1);
+            listed = listed.saturating_add(1);
         }
         let own = by_itself(alloc, event.gateway(), &calls[place])?;
-        let answer = &answers[place];
-        let found = follow_call::<R>(
-            alloc, field, events, played, seat, number, at, place, &own, answer,
-        );
+        let after = Progress { run, at, listed };
+        let found = follow_call::<R>(alloc, after, seat, place, &own, &answers[place]);
         drop(own);
         if let Some(what) = found? {
             return Ok(Some(what));
@@ -89,25 +84,18 @@ pub(crate) fn follow_row<R: Replica>(
     Ok(None)
 }
 
-/// A gateway answered to the call in this place. So many deltas are listed behind it. What differs,
-/// if something does.
+/// A gateway answered to the call in this place. What differs, if something does.
 fn follow_call<R: Replica>(
     alloc: Global,
-    field: &Field,
-    events: &[Event],
-    played: &Played,
+    progress: Progress<'_>,
     seat: &mut Seat,
-    listed: u64,
-    at: usize,
     place: usize,
     own: &Event,
     answer: &Result<Arc<Out>, NodeFault>,
 ) -> Result<Option<What>, NoMemory> {
     match answer {
-        Ok(out) => follow_out(alloc, seat, played, listed, own, out),
-        Err(fault) => {
-            follow_fault::<R>(alloc, field, events, played, seat, at, place, own, fault)
-        }
+        Ok(out) => follow_out(alloc, seat, progress.run.played, progress.listed, own, out),
+        Err(fault) => follow_fault::<R>(alloc, progress, seat, place, own, fault),
     }
 }
 

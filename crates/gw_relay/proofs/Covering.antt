@@ -6,7 +6,7 @@ use Rattle.std.specs.Cmp.{on_total}
 use Rattle.std.proofs.lemmas.Bool.{and_from}
 use Rattle.std.proofs.lemmas.Map.Text.{is_eq-slice_cmp}
 use Rattle.sn_tables.specs.Tables.{is_ascending}
-use Rattle.sn_tables.specs.inner.Tables.{AllAbove, IsAt, IsGap}
+use Rattle.sn_tables.specs.inner.Tables.{AllAbove, IsFoundAt, IsGap}
 use Rattle.sn_tables.proofs.Ascending.{Ascends, from_test}
 use Rattle.rep_op.specs.declared.op.Retained.{Retained}
 use Rattle.rep_op.specs.declared.op.Op.{Op}
@@ -16,7 +16,7 @@ use Rattle.rep_model.proofs.Readers.{topic_total}
 use Rattle.rep_digest.specs.declared.entry.ClientEntry.{ClientEntry}
 use Rattle.rep_digest.specs.declared.entry.RetainedEntry.{RetainedEntry}
 use Rattle.rep_digest.specs.WellMade.{TopicsAscend}
-use Rattle.gw_relay.specs.News.{is_covered_by, is_as_late, is_retained_by}
+use Rattle.gw_relay.specs.News.{is_covered_by, entry_is_as_late, is_retained_by}
 
 -- where no entry passes, none does
 none_passes : {E : Type 0} (test : E → Bool) → ((e : E) → test e ≡ false) → (es : List E) → false ≡ list_any test es
@@ -55,19 +55,19 @@ or_false false = refl
 
 module _ (t : List ℕ) (k : Retained) where
   -- the order tells whether an entry is of the topic
-  ordered : (e : RetainedEntry) (o : Ordering) → topic_name_cmp e.topic t ≡ o → is_retained_by (OfRetain t k) e ≡ (is_eq o && is_as_late e (clock_of k))
-  ordered e o is = ap (λ b. b && is_as_late e (clock_of k)) (sym (is_eq-slice_cmp e.topic t) ∙ ap is_eq is)
+  ordered : (e : RetainedEntry) (o : Ordering) → topic_name_cmp e.topic t ≡ o → is_retained_by (OfRetain t k) e ≡ (is_eq o && entry_is_as_late e (clock_of k))
+  ordered e o is = ap (λ b. b && entry_is_as_late e (clock_of k)) (sym (is_eq-slice_cmp e.topic t) ∙ ap is_eq is)
 
   none_above : (es : List RetainedEntry) → AllAbove (λ e. topic_name_cmp e.topic t) es → list_any (is_retained_by (OfRetain t k)) es ≡ false
   none_above [] h = refl
   none_above (e ∷ es) h = ap (λ b. b || list_any (is_retained_by (OfRetain t k)) es) (ordered e Greater h.0) ∙ none_above es h.1
 
-  pub found : (es : List RetainedEntry) (at : ℕ) (d : RetainedEntry) → IsAt (λ e. topic_name_cmp e.topic t) es at → list_any (is_retained_by (OfRetain t k)) es ≡ is_as_late (get_or es at d) (clock_of k)
+  pub found : (es : List RetainedEntry) (at : ℕ) (d : RetainedEntry) → IsFoundAt (λ e. topic_name_cmp e.topic t) es at → list_any (is_retained_by (OfRetain t k)) es ≡ entry_is_as_late (get_or es at d) (clock_of k)
   found [] at d h = absurd h
   found (e ∷ es) zero d h =
       ap (λ b. b || list_any (is_retained_by (OfRetain t k)) es) (ordered e Equal h.0)
-      ∙ ap (λ b. is_as_late e (clock_of k) || b) (none_above es h.1)
-      ∙ or_false (is_as_late e (clock_of k))
+      ∙ ap (λ b. entry_is_as_late e (clock_of k) || b) (none_above es h.1)
+      ∙ or_false (entry_is_as_late e (clock_of k))
   found (e ∷ es) (suc at) d h = ap (λ b. b || list_any (is_retained_by (OfRetain t k)) es) (ordered e Less h.0) ∙ found es at d h.1
 
   pub absent : (es : List RetainedEntry) (at : ℕ) → IsGap (λ e. topic_name_cmp e.topic t) es at → list_any (is_retained_by (OfRetain t k)) es ≡ false

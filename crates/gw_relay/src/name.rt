@@ -25,7 +25,7 @@ pub struct Name {
 
 /// The name of an operation. The only fault is want of memory.
 pub fn name_of(alloc: Global, op: &Op) -> Result<Name, NoMemory>
-    ensures { IfOk result (λ name. name ≡ spec.name_of op.now) }
+    ensures { IfOk result (λ name. name ≡ spec.name_of_op op.now) }
 {
     let of = op.subject(alloc)?;
     match op {

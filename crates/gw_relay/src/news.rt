@@ -19,9 +19,9 @@ use sn_topic::TopicName;
 
 /// Whether a delta has an operation that is not known: no digest covers it, and it was not noted.
 pub fn brings_news(digest: &Digest, notes: &[Name], ops: &[Op]) -> bool
-    ensures { result ≡ list_any (λ op. not (spec.is_known digest.now notes.now op)) ops.now }
+    ensures { result ≡ list_any (λ op. not (spec.is_op_known digest.now notes.now op)) ops.now }
 {
-    ops.iter().any(|op| !is_known(digest, notes, op))
+    ops.iter().any(|op| !is_op_known(digest, notes, op))
 }
 
 /// The same where there is no digest: whether one of the operations was not noted.
@@ -32,8 +32,8 @@ pub fn brings_unnoted(notes: &[Name], ops: &[Op]) -> bool
 }
 
 /// Whether a digest covers an operation, or it was noted since.
-pub fn is_known(digest: &Digest, notes: &[Name], op: &Op) -> bool
-    ensures { result ≡ spec.is_known digest.now notes.now op.now }
+pub fn is_op_known(digest: &Digest, notes: &[Name], op: &Op) -> bool
+    ensures { result ≡ spec.is_op_known digest.now notes.now op.now }
 {
     is_covered(digest, op) || is_noted(notes, op)
 }
@@ -78,7 +78,7 @@ fn has_topic(entries: &[RetainedEntry], topic: &TopicName, retained: &Retained) 
         entries.now }
 {
     match place(entries, topic) {
-        Ok(at) => is_as_late(&entries[at], retained),
+        Ok(at) => entry_is_as_late(&entries[at], retained),
         Err(_) => false,
     }
 }
@@ -92,8 +92,8 @@ fn place(entries: &[RetainedEntry], topic: &TopicName) -> Result<usize, usize>
 }
 
 /// Whether what an entry names is as late as this, or later.
-fn is_as_late(entry: &RetainedEntry, retained: &Retained) -> bool
-    ensures { result ≡ spec.is_as_late entry.now (clock_of retained.now) }
+fn entry_is_as_late(entry: &RetainedEntry, retained: &Retained) -> bool
+    ensures { result ≡ spec.entry_is_as_late entry.now (clock_of retained.now) }
 {
     !is_before(entry, retained)
 }
@@ -117,7 +117,7 @@ fn is_covered_by(entry: &ClientEntry, op: &Op) -> bool
             stamp,
             counter,
             ..
-        } => entry.client == *client && sees(entry, *stamp, *counter),
+        } => entry.client == *client && entry_sees(entry, *stamp, *counter),
         Op::Put { client, put } => entry.client == *client && has_put(entry, put.origin, put.seq),
         Op::Ack {
             client,
@@ -130,8 +130,8 @@ fn is_covered_by(entry: &ClientEntry, op: &Op) -> bool
 }
 
 /// Whether the entry sees a session operation: below its stamp, or at it among those without a gap.
-fn sees(entry: &ClientEntry, stamp: Stamp, counter: u8) -> bool
-    ensures { result ≡ spec.sees entry.now stamp counter }
+fn entry_sees(entry: &ClientEntry, stamp: Stamp, counter: u8) -> bool
+    ensures { result ≡ spec.entry_sees entry.now stamp counter }
 {
     is_below(stamp, entry.stamp) || is_in_prefix(entry.stamp, entry.prefix, stamp, counter)
 }
@@ -215,15 +215,16 @@ pub fn is_lost(digest: &Digest, notes: &[Name], gateway: u8, op: &Op) -> bool
     ensures { result ≡ spec.is_lost digest.now notes.now gateway op.now }
 {
     match op {
-        Op::Session { stamp, .. } => stamp.gateway == gateway && !is_known(digest, notes, op),
-        Op::Put { put, .. } => put.origin == gateway && !is_known(digest, notes, op),
+        Op::Session { stamp, .. } => stamp.gateway == gateway && !is_op_known(digest, notes, op),
+        Op::Put { put, .. } => put.origin == gateway && !is_op_known(digest, notes, op),
         Op::Ack {
             client,
             origin,
             first: _,
             last,
         } => *origin == gateway && !reaches(digest, client, *origin, *last),
-        Op::Retain { retained, .. } => retained.gateway == gateway && !is_known(digest, notes, op),
+        Op::Retain { retained, .. } => retained.gateway == gateway
+            && !is_op_known(digest, notes, op),
     }
 }
 
@@ -287,28 +288,28 @@ fn is_of(name: &Name, op: &Op) -> bool
             counter,
             ..
         } => {
-            is_name(name, 0, stamp.gateway, stamp.epoch, u64::from(*counter))
+            has_name_parts(name, 0, stamp.gateway, stamp.epoch, u64::from(*counter))
                 && is_client(client, &name.of)
         }
         Op::Put { client, put } => {
-            is_name(name, 1, put.origin, put.seq, put.seq) && is_client(client, &name.of)
+            has_name_parts(name, 1, put.origin, put.seq, put.seq) && is_client(client, &name.of)
         }
         Op::Ack {
             client,
             origin,
             first,
             last,
-        } => is_name(name, 2, *origin, *first, *last) && is_client(client, &name.of),
+        } => has_name_parts(name, 2, *origin, *first, *last) && is_client(client, &name.of),
         Op::Retain { topic, retained } => {
-            is_name(name, 3, retained.gateway, retained.clock, retained.clock)
-                && is_topic(topic, &name.of)
+            has_name_parts(name, 3, retained.gateway, retained.clock, retained.clock)
+                && is_of_topic(topic, &name.of)
         }
     }
 }
 
 /// Whether a name has these parts.
-fn is_name(name: &Name, kind: u8, gateway: u8, first: u64, last: u64) -> bool
-    ensures { result ≡ spec.is_name kind gateway first last name.now }
+fn has_name_parts(name: &Name, kind: u8, gateway: u8, first: u64, last: u64) -> bool
+    ensures { result ≡ spec.has_name_parts kind gateway first last name.now }
 {
     name.first == first && name.last == last && name.gateway == gateway && name.kind == kind
 }
@@ -324,8 +325,8 @@ fn is_client(client: &ClientId, of: &Subject) -> bool
 }
 
 /// Whether it is this topic.
-fn is_topic(topic: &TopicName, of: &Subject) -> bool
-    ensures { result ≡ spec.is_topic topic.now of.now }
+fn is_of_topic(topic: &TopicName, of: &Subject) -> bool
+    ensures { result ≡ spec.is_of_topic topic.now of.now }
 {
     match of {
         Subject::Client(_) => false,

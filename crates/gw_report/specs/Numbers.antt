@@ -8,34 +8,34 @@ use Rattle.gw_report.specs.declared.numbers.Singles.{Singles}
 use Rattle.gw_report.specs.declared.numbers.Link.{Link}
 
 -- the number of a name that has no label
-unfoldable pub value_of : Singles → Single → ℕ
-value_of s singles.UpSeconds = s.up_seconds
-value_of s singles.Shift = s.shift
-value_of s singles.ShiftCalls = s.shift_calls
-value_of s singles.DatagramsReceived = s.datagrams_received
-value_of s singles.DatagramsDropped = s.datagrams_dropped
-value_of s singles.DatagramsUnsent = s.datagrams_unsent
-value_of s singles.TurnSeconds = s.turn_seconds
-value_of s singles.TurnSecondsMax = s.turn_seconds_max
-value_of s singles.CompactionSeconds = s.compaction_seconds
-value_of s singles.CompactionSecondsMax = s.compaction_seconds_max
-value_of s singles.Halted = s.halted
-value_of s singles.TickAgeSeconds = s.tick_age_seconds
-value_of s singles.TickSecondsMax = s.tick_seconds_max
-value_of s singles.StoodStillSeconds = s.stood_still_seconds
-value_of s singles.LinksTurnedAway = s.links_turned_away
-value_of s singles.ClientsOwned = s.clients_owned
-value_of s singles.ClientsBound = s.clients_bound
-value_of s singles.WaitingMessages = s.waiting_messages
-value_of s singles.WaitingMost = s.waiting_most
-value_of s singles.ClientsNearFull = s.clients_near_full
-value_of s singles.ClientsFull = s.clients_full
-value_of s singles.TopicsNearFull = s.topics_near_full
-value_of s singles.StuckSecondsMost = s.stuck_seconds_most
-value_of s singles.SetMark = s.set_mark
-value_of s singles.EventsLost = s.events_lost
-value_of s singles.ResidentMemory = s.resident_memory
-value_of s singles.StartTime = s.start_time
+unfoldable pub single_value : Singles → Single → ℕ
+single_value s singles.UpSeconds = s.up_seconds
+single_value s singles.Shift = s.shift
+single_value s singles.ShiftCalls = s.shift_calls
+single_value s singles.DatagramsReceived = s.datagrams_received
+single_value s singles.DatagramsDropped = s.datagrams_dropped
+single_value s singles.DatagramsUnsent = s.datagrams_unsent
+single_value s singles.TurnSeconds = s.turn_seconds
+single_value s singles.TurnSecondsMax = s.turn_seconds_max
+single_value s singles.CompactionSeconds = s.compaction_seconds
+single_value s singles.CompactionSecondsMax = s.compaction_seconds_max
+single_value s singles.Halted = s.halted
+single_value s singles.TickAgeSeconds = s.tick_age_seconds
+single_value s singles.TickSecondsMax = s.tick_seconds_max
+single_value s singles.StoodStillSeconds = s.stood_still_seconds
+single_value s singles.LinksTurnedAway = s.links_turned_away
+single_value s singles.ClientsOwned = s.clients_owned
+single_value s singles.ClientsBound = s.clients_bound
+single_value s singles.WaitingMessages = s.waiting_messages
+single_value s singles.WaitingMost = s.waiting_most
+single_value s singles.ClientsNearFull = s.clients_near_full
+single_value s singles.ClientsFull = s.clients_full
+single_value s singles.TopicsNearFull = s.topics_near_full
+single_value s singles.StuckSecondsMost = s.stuck_seconds_most
+single_value s singles.SetMark = s.set_mark
+single_value s singles.EventsLost = s.events_lost
+single_value s singles.ResidentMemory = s.resident_memory
+single_value s singles.StartTime = s.start_time
 
 -- the number of a name, of a place of a link
 unfoldable pub link_value : Link → Column → ℕ

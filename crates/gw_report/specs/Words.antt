@@ -76,63 +76,23 @@ single_help singles.StartTime = codes "Start of the process, in seconds since 19
 
 -- the kind of a number without a label
 unfoldable pub single_kind : Single → Kind
-single_kind singles.UpSeconds = kinds.Gauge
-single_kind singles.Shift = kinds.Gauge
-single_kind singles.ShiftCalls = kinds.Gauge
 single_kind singles.DatagramsReceived = kinds.Counter
 single_kind singles.DatagramsDropped = kinds.Counter
 single_kind singles.DatagramsUnsent = kinds.Counter
-single_kind singles.TurnSeconds = kinds.Gauge
-single_kind singles.TurnSecondsMax = kinds.Gauge
-single_kind singles.CompactionSeconds = kinds.Gauge
-single_kind singles.CompactionSecondsMax = kinds.Gauge
-single_kind singles.Halted = kinds.Gauge
-single_kind singles.TickAgeSeconds = kinds.Gauge
-single_kind singles.TickSecondsMax = kinds.Gauge
 single_kind singles.StoodStillSeconds = kinds.Counter
 single_kind singles.LinksTurnedAway = kinds.Counter
-single_kind singles.ClientsOwned = kinds.Gauge
-single_kind singles.ClientsBound = kinds.Gauge
-single_kind singles.WaitingMessages = kinds.Gauge
-single_kind singles.WaitingMost = kinds.Gauge
-single_kind singles.ClientsNearFull = kinds.Gauge
-single_kind singles.ClientsFull = kinds.Gauge
-single_kind singles.TopicsNearFull = kinds.Gauge
-single_kind singles.StuckSecondsMost = kinds.Gauge
-single_kind singles.SetMark = kinds.Gauge
 single_kind singles.EventsLost = kinds.Counter
-single_kind singles.ResidentMemory = kinds.Gauge
-single_kind singles.StartTime = kinds.Gauge
+single_kind single = kinds.Gauge
 
 -- whether the value is in thousandths
 unfoldable pub is_in_thousandths : Single → Bool
-is_in_thousandths singles.UpSeconds = false
-is_in_thousandths singles.Shift = false
-is_in_thousandths singles.ShiftCalls = false
-is_in_thousandths singles.DatagramsReceived = false
-is_in_thousandths singles.DatagramsDropped = false
-is_in_thousandths singles.DatagramsUnsent = false
 is_in_thousandths singles.TurnSeconds = true
 is_in_thousandths singles.TurnSecondsMax = true
 is_in_thousandths singles.CompactionSeconds = true
 is_in_thousandths singles.CompactionSecondsMax = true
-is_in_thousandths singles.Halted = false
 is_in_thousandths singles.TickAgeSeconds = true
 is_in_thousandths singles.TickSecondsMax = true
-is_in_thousandths singles.StoodStillSeconds = false
-is_in_thousandths singles.LinksTurnedAway = false
-is_in_thousandths singles.ClientsOwned = false
-is_in_thousandths singles.ClientsBound = false
-is_in_thousandths singles.WaitingMessages = false
-is_in_thousandths singles.WaitingMost = false
-is_in_thousandths singles.ClientsNearFull = false
-is_in_thousandths singles.ClientsFull = false
-is_in_thousandths singles.TopicsNearFull = false
-is_in_thousandths singles.StuckSecondsMost = false
-is_in_thousandths singles.SetMark = false
-is_in_thousandths singles.EventsLost = false
-is_in_thousandths singles.ResidentMemory = false
-is_in_thousandths singles.StartTime = false
+is_in_thousandths single = false
 
 -- the name of a number of a place of a link, without the `nimhazel_` that begins it
 unfoldable pub column_name : Column → List ℕ
@@ -164,17 +124,12 @@ column_help columns.DialsFailed = codes "Dials that made no link."
 
 -- the kind of a number of a place of a link
 unfoldable pub column_kind : Column → Kind
-column_kind columns.Up = kinds.Gauge
-column_kind columns.Number = kinds.Gauge
-column_kind columns.SinceSeconds = kinds.Gauge
-column_kind columns.HeardSeconds = kinds.Gauge
-column_kind columns.WaitingOctets = kinds.Gauge
 column_kind columns.Told = kinds.Counter
 column_kind columns.Taken = kinds.Counter
-column_kind columns.AnswerOperations = kinds.Gauge
 column_kind columns.ReceivedOctets = kinds.Counter
 column_kind columns.SentOctets = kinds.Counter
 column_kind columns.DialsFailed = kinds.Counter
+column_kind column = kinds.Gauge
 
 -- the name of numbers with labels, without the `nimhazel_` that begins it
 unfoldable pub count_name : Count → List ℕ
@@ -202,12 +157,7 @@ count_help counts.LinkRefused = codes "Deltas that came and were refused, by fau
 
 -- the kind of numbers with labels
 unfoldable pub count_kind : Count → Kind
-count_kind counts.FramesReceived = kinds.Counter
-count_kind counts.DatagramsSent = kinds.Counter
-count_kind counts.Calls = kinds.Counter
-count_kind counts.Compactions = kinds.Counter
-count_kind counts.Reopenings = kinds.Counter
 count_kind counts.Clients = kinds.Gauge
 count_kind counts.JournalOctets = kinds.Gauge
 count_kind counts.MessagesKnown = kinds.Gauge
-count_kind counts.LinkRefused = kinds.Counter
+count_kind count = kinds.Counter

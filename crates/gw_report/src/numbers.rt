@@ -1,7 +1,7 @@
 //! The numbers of a report.
 
 ghost use Rattle.std.specs.Prelude.{◌≡◌};
-ghost use Rattle.gw_report.specs.Numbers.{value_of, link_value};
+ghost use Rattle.gw_report.specs.Numbers.{single_value, link_value};
 
 use super::count::{Column, Single};
 use super::label::{Label, Place};
@@ -130,9 +130,9 @@ pub struct Singles {
 
 impl Singles {
     /// The number of this name.
-    #[tactic(auto, unfolding(crate::specs::Numbers::value_of))]
+    #[tactic(auto, unfolding(crate::specs::Numbers::single_value))]
     pub fn value(&self, single: Single) -> u64
-        ensures { result ≡ value_of self.now single }
+        ensures { result ≡ single_value self.now single }
     {
         match single {
             Single::UpSeconds => self.up_seconds,

@@ -10,7 +10,7 @@ use Rattle.gw_answer.specs.declared.fault.NodeFault.{NodeFault}
 use Rattle.gw_answer.specs.declared.fault.NodeFault.TheVariants as node_faults
 use Rattle.gw_answer.specs.declared.refusal.Refusal.{Refusal}
 use Rattle.gw_answer.specs.declared.refusal.Refusal.TheVariants as refusals
-use Rattle.gw_answer.specs.Answers.{told, said}
+use Rattle.gw_answer.specs.Answers.{refusal_of_fault, said}
 use Rattle.gw_shift.specs.Calls.{Held, Holder}
 use Rattle.gw_shift.specs.Calling.{Made, NotMade}
 use Rattle.gw_shift.specs.declared.fault.CallFault.{CallFault}
@@ -20,7 +20,7 @@ use Rattle.gw_link.specs.Calling.{CannotCall, says_halted}
 use Rattle.gw_link.specs.declared.calling.End.{End}
 use Rattle.gw_link.specs.declared.calling.End.TheVariants as ends
 use Rattle.gw_link.proofs.Adding.{each_none, each_one, each_more}
-use Rattle.gw_run.specs.Clock.{IsLiveTick, FindsHalted, OpensAs, EndsAs, AddsOfClock}
+use Rattle.gw_run.specs.Clock.{IsLiveTick, FindsHalted, OpensAs, ClockEndsAs, AddsOfClock}
 
 -- nothing was called
 pub clock_none : (before after : Holder) → after ≡ before → AddsOfClock before None after
@@ -52,7 +52,7 @@ pub clock_found : (before found after : Holder) (end : End) → FindsHalted befo
 clock_found before found after end finds opens = (before, each_none IsLiveTick before before refl, inr (found, finds, opens))
 
 -- the refusal that says so is one
-pub halted_is : (fault : NodeFault) → says_halted (Err (told fault)) ≡ true → told fault ≡ refusals.Halted
+pub halted_is : (fault : NodeFault) → says_halted (Err (refusal_of_fault fault)) ≡ true → refusal_of_fault fault ≡ refusals.Halted
 halted_is (node_faults.Frame fault) is = absurd (true≢false (sym is))
 halted_is node_faults.Halted is = refl
 halted_is (node_faults.Disk out) is = absurd (true≢false (sym is))
@@ -62,9 +62,9 @@ halted_is node_faults.Exhausted is = absurd (true≢false (sym is))
 halted_is node_faults.Memory is = absurd (true≢false (sym is))
 halted_is (node_faults.Journal fault) is = absurd (true≢false (sym is))
 
-pub finds_halted : (before : Holder) (step : Step) (moment : ℕ) (fault : NodeFault) (number : ℕ) (after : Holder) → step ≡ steps.Tick moment → says_halted (Err (told fault)) ≡ true → Made before step (Err (told fault)) number after → FindsHalted before after
+pub finds_halted : (before : Holder) (step : Step) (moment : ℕ) (fault : NodeFault) (number : ℕ) (after : Holder) → step ≡ steps.Tick moment → says_halted (Err (refusal_of_fault fault)) ≡ true → Made before step (Err (refusal_of_fault fault)) number after → FindsHalted before after
 finds_halted before step moment fault number after is halted made =
-    (moment, number, subst (λ (refusal : Refusal). Made before (steps.Tick moment) (Err refusal) number after) (halted_is fault halted) (subst (λ (s : Step). Made before s (Err (told fault)) number after) is made))
+    (moment, number, subst (λ (refusal : Refusal). Made before (steps.Tick moment) (Err refusal) number after) (halted_is fault halted) (subst (λ (s : Step). Made before s (Err (refusal_of_fault fault)) number after) is made))
 
 -- the same where an answer of these calls is known
 
@@ -90,15 +90,15 @@ clock_goes_on a b c None is x y = clock_later a b c None x y
 clock_goes_on a b c (Some end) is x y = absurd (true≢false is)
 
 -- a tick that was refused since the gateway is halted
-pub finds_refused : (before : Holder) (step : Step) (moment : ℕ) (answered : Result (Result (Arc Out Global) NodeFault) End) (answer : Result (Arc Out Global) NodeFault) (fault : NodeFault) (after : Holder) → answered ≡ Ok answer → answer ≡ Err fault → step ≡ steps.Tick moment → says_halted (Err (told fault)) ≡ true → IfOk answered (λ (answer : Result (Arc Out Global) NodeFault). (number : ℕ) × Made before step (said answer) number after) → FindsHalted before after
+pub finds_refused : (before : Holder) (step : Step) (moment : ℕ) (answered : Result (Result (Arc Out Global) NodeFault) End) (answer : Result (Arc Out Global) NodeFault) (fault : NodeFault) (after : Holder) → answered ≡ Ok answer → answer ≡ Err fault → step ≡ steps.Tick moment → says_halted (Err (refusal_of_fault fault)) ≡ true → IfOk answered (λ (answer : Result (Arc Out Global) NodeFault). (number : ℕ) × Made before step (said answer) number after) → FindsHalted before after
 finds_refused before step moment answered answer fault after is refuses ticks halted made =
     let whole : answered ≡ Ok (Err fault) = subst (λ (a : Result (Arc Out Global) NodeFault). answered ≡ Ok a) refuses is in
-    let known : (number : ℕ) × Made before step (Err (told fault)) number after = subst (λ (r : Result (Result (Arc Out Global) NodeFault) End). IfOk r (λ (answer : Result (Arc Out Global) NodeFault). (number : ℕ) × Made before step (said answer) number after)) whole made in
+    let known : (number : ℕ) × Made before step (Err (refusal_of_fault fault)) number after = subst (λ (r : Result (Result (Arc Out Global) NodeFault) End). IfOk r (λ (answer : Result (Arc Out Global) NodeFault). (number : ℕ) × Made before step (said answer) number after)) whole made in
     finds_halted before step moment fault known.0 after ticks halted known.1
 
 -- a tick that was refused for want of memory
-pub starved_refused : (before : Holder) (step : Step) (moment : ℕ) (answered : Result (Result (Arc Out Global) NodeFault) End) (answer : Result (Arc Out Global) NodeFault) (fault : NodeFault) (after : Holder) (end : End) → answered ≡ Ok answer → answer ≡ Err fault → step ≡ steps.Tick moment → says_halted (Err (told fault)) ≡ false → end ≡ ends.Memory → IfOk answered (λ (answer : Result (Arc Out Global) NodeFault). (number : ℕ) × Made before step (said answer) number after) → AddsOfClock before (Some end) after
+pub starved_refused : (before : Holder) (step : Step) (moment : ℕ) (answered : Result (Result (Arc Out Global) NodeFault) End) (answer : Result (Arc Out Global) NodeFault) (fault : NodeFault) (after : Holder) (end : End) → answered ≡ Ok answer → answer ≡ Err fault → step ≡ steps.Tick moment → says_halted (Err (refusal_of_fault fault)) ≡ false → end ≡ ends.Memory → IfOk answered (λ (answer : Result (Arc Out Global) NodeFault). (number : ℕ) × Made before step (said answer) number after) → AddsOfClock before (Some end) after
 starved_refused before step moment answered answer fault after end is refuses ticks live memory made =
     let whole : answered ≡ Ok (Err fault) = subst (λ (a : Result (Arc Out Global) NodeFault). answered ≡ Ok a) refuses is in
-    let known : (number : ℕ) × Made before step (Err (told fault)) number after = subst (λ (r : Result (Result (Arc Out Global) NodeFault) End). IfOk r (λ (answer : Result (Arc Out Global) NodeFault). (number : ℕ) × Made before step (said answer) number after)) whole made in
-    clock_starved before moment (Err (told fault)) known.0 after end live (subst (λ (s : Step). Made before s (Err (told fault)) known.0 after) ticks known.1) memory
+    let known : (number : ℕ) × Made before step (Err (refusal_of_fault fault)) number after = subst (λ (r : Result (Result (Arc Out Global) NodeFault) End). IfOk r (λ (answer : Result (Arc Out Global) NodeFault). (number : ℕ) × Made before step (said answer) number after)) whole made in
+    clock_starved before moment (Err (refusal_of_fault fault)) known.0 after end live (subst (λ (s : Step). Made before s (Err (refusal_of_fault fault)) known.0 after) ticks known.1) memory

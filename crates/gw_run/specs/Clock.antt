@@ -14,14 +14,8 @@ use Rattle.gw_link.specs.declared.calling.End.TheVariants as ends
 
 -- the clock's calls
 abbrev pub is_tick : Step → Bool
-is_tick (steps.Frame from bytes now) = false
-is_tick (steps.Take delta) = false
 is_tick (steps.Tick now) = true
-is_tick (steps.View client) = false
-is_tick steps.Digest = false
-is_tick (steps.Answer digest) = false
-is_tick steps.Compact = false
-is_tick steps.Reopen = false
+is_tick step = false
 
 -- a tick that did not find the gateway halted
 abbrev pub IsLiveTick : Held → Type 0
@@ -41,16 +35,14 @@ Reopens before answer after = (number : ℕ) × Made before steps.Reopen answer 
 abbrev pub OpensAs : Holder → End → Holder → Type 0
 OpensAs before ends.Reopened after = (out : Out) × Reopens before (Ok out) after
 OpensAs before ends.Halted after = (refusal : Refusal) × Reopens before (Err refusal) after
-OpensAs before ends.Full after = after ≡ before
-OpensAs before ends.Memory after = after ≡ before
-OpensAs before ends.Behind after = after ≡ before
 OpensAs before ends.Lost after = ⊥
+OpensAs before end after = after ≡ before
 
 -- What comes after the ticks that did not find the gateway halted, by why the clock ended. It is
 -- nothing, or one that did, and then the call by which the gateway was opened again.
-abbrev pub EndsAs : Holder → Option End → Holder → Type 0
-EndsAs before None after = after ≡ before
-EndsAs before (Some end) after =
+abbrev pub ClockEndsAs : Holder → Option End → Holder → Type 0
+ClockEndsAs before None after = after ≡ before
+ClockEndsAs before (Some end) after =
     (CannotCall end × (after ≡ before))
     ⊎ ((found : Holder) × FindsHalted before found × OpensAs found end after)
 
@@ -58,4 +50,4 @@ EndsAs before (Some end) after =
 -- so, and holds nothing else.
 abbrev pub AddsOfClock : Holder → Option End → Holder → Type 0
 AddsOfClock before end after =
-    (ticked : Holder) × AddsEach IsLiveTick before ticked × EndsAs ticked end after
+    (ticked : Holder) × AddsEach IsLiveTick before ticked × ClockEndsAs ticked end after

@@ -8,7 +8,8 @@ use std::sync::atomic::{AtomicBool, AtomicU64, Ordering};
 use std::time::Clock;
 
 /// Whether the gateway listens to the peers that it dials, and does not serve yet: what it tells a
-/// client that wakes is then what they know. One thread looks whether that is over.
+/// client that wakes is then what they know. The reader's thread looks whether that is over, and
+/// any thread reads what it found, without a lock.
 #[derive(Drop)]
 pub struct Listening {
     is_on: AtomicBool,

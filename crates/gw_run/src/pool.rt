@@ -16,7 +16,7 @@ pub const MOST_ACCEPTED: usize = 8;
 const LARGEST_PIECE: usize = 65_536;
 
 /// How many seconds an empty seat waits for a link before it looks again.
-const A_LOOK: u64 = 5;
+const SEAT_WAIT_SECONDS: u64 = 5;
 
 #[derive(Drop)]
 struct Links<S: Drop> {
@@ -37,7 +37,9 @@ struct Links<S: Drop> {
 }
 
 /// What outlives a shift: the links that wait for a seat, how many are open, and the second in
-/// which the clock last ticked.
+/// which the clock last ticked. Threads of shifts, of seats and of doors share it. A method that
+/// takes `rt` holds the pool's lock for a moment; only a link that is closed for want of memory
+/// makes it take the relay's beside it.
 #[derive(Drop)]
 pub struct Pool<S: Drop> {
     links: Mutex<Links<S>>,
@@ -195,7 +197,8 @@ impl<S: Drop> Pool<S> {
         links.talked.len()
     }
 
-    /// The gateway makes no more deltas in this shift: a seat that is empty has nothing to wait for.
+    /// The gateway makes no more deltas in this shift: a seat that is empty has nothing to wait
+    /// for.
     pub fn be_quiet<T: Wait>(&self, rt: &T) {
         self.links.lock(rt).is_quiet = true;
         self.changed.notify_all();
@@ -206,7 +209,7 @@ impl<S: Drop> Pool<S> {
         let (links, _) = self.changed.wait_timeout_while(
             rt,
             self.links.lock(rt),
-            Duration::from_secs(A_LOOK),
+            Duration::from_secs(SEAT_WAIT_SECONDS),
             |links| links.waiting.is_empty() && !links.is_quiet,
         );
         let _ = links.accepted;

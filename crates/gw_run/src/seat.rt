@@ -4,11 +4,10 @@ ghost use Rattle.std.specs.Prelude.{◌≡◌};
 ghost use Rattle.gw_link.specs.Adding.{Adds, is_of_link};
 
 use crate::pool::Pool;
-use gw_link::{End, Link, Phase, Stage, talk};
-use gw_shift::{Pass, Shift};
+use gw_link::{End, Link, Phase, Work, talk};
+use gw_shift::Pass;
 use jr_disk::Disk;
 use rep_model::Replica;
-use std::alloc::Global;
 use std::io::{Read, Write};
 use std::sync::Wait;
 use std::time::Clock;
@@ -24,38 +23,35 @@ pub struct Seat {
 
 /// Lets links talk at a seat until the shift is over. Those that are still open then wait for the
 /// next one. A link that waits for a seat when the shift is over gets one all the same: it has to
-/// tell what the gateway made in the shift.
+/// tell what the gateway made in the shift. Runs in the seat's own thread; it takes the pool's lock
+/// for a link, and the shift's for a call.
 pub fn sit<T: Wait + Clock, R: Replica, D: Disk + Drop, S: Read + Write + Drop>(
-    rt: &T,
-    alloc: Global,
-    shift: &Shift<R, D>,
+    work: &Work<'_, T, R, D>,
     seat: Seat,
     pool: &Pool<S>,
     gateway: u8,
-    stage: &Stage,
 ) -> Seat
     ensures { Adds is_of_link seat.pass result.pass }
 {
-    let (pass, end) = sit_with(rt, alloc, shift, seat.pass, pool, gateway, stage);
+    let (pass, end) = sit_with(work, seat.pass, pool, gateway);
     Seat { pass, end }
 }
 
-/// The same with the seat's pass.
+/// Lets links talk with the seat's pass until the shift is over. Says why the seat was left before
+/// that, if it was.
 #[tactic(auto, using(gw_link::proofs::Adding::adds_more, gw_link::proofs::Adding::adds_none))]
 fn sit_with<T: Wait + Clock, R: Replica, D: Disk + Drop, S: Read + Write + Drop>(
-    rt: &T,
-    alloc: Global,
-    shift: &Shift<R, D>,
+    work: &Work<'_, T, R, D>,
     pass: Pass,
     pool: &Pool<S>,
     gateway: u8,
-    stage: &Stage,
 ) -> (Pass, Option<End>)
     ensures { Adds is_of_link pass result.0 }
 {
     let mut pass = pass;
+    let rt = work.rt;
     for _ in rt.forever() {
-        let phase = stage.phase(rt);
+        let phase = work.stage.phase(rt);
         let Some(mut link) = pool.take(rt) else {
             if phase == Phase::Quiet {
                 return (pass, None);
@@ -63,14 +59,14 @@ fn sit_with<T: Wait + Clock, R: Replica, D: Disk + Drop, S: Read + Write + Drop>
             pool.wait(rt);
             continue;
         };
-        let (after, end) = talk_at(rt, alloc, shift, pass, pool, &mut link, gateway, stage);
+        let (after, end) = talk_at(work, pass, pool, &mut link, gateway);
         pass = after;
         match end {
             End::Full => pool.give_back(rt, link),
             End::Lost => pool.lose(rt, link),
             End::Memory | End::Behind | End::Halted | End::Reopened => {
                 pool.lose(rt, link);
-                stage.close(rt);
+                work.stage.close(rt);
                 return (pass, Some(end));
             }
         }
@@ -81,32 +77,19 @@ fn sit_with<T: Wait + Clock, R: Replica, D: Disk + Drop, S: Read + Write + Drop>
 /// Lets a link talk, with room for what it reads. If there is no memory for that, the link is lost.
 #[tactic(auto, using(gw_link::proofs::Adding::adds_none))]
 fn talk_at<T: Wait + Clock, R: Replica, D: Disk + Drop, S: Read + Write + Drop>(
-    rt: &T,
-    alloc: Global,
-    shift: &Shift<R, D>,
+    work: &Work<'_, T, R, D>,
     pass: Pass,
     pool: &Pool<S>,
     link: &mut Link<S>,
     gateway: u8,
-    stage: &Stage,
 ) -> (Pass, End)
     ensures { Adds is_of_link pass result.0 }
 {
-    let Some(mut piece) = pool.piece(rt, alloc) else {
+    let Some(mut piece) = pool.piece(work.rt, work.alloc) else {
         return (pass, End::Lost);
     };
     link.begin_shift();
-    let (pass, end) = talk(
-        rt,
-        alloc,
-        shift,
-        pass,
-        link,
-        gateway,
-        piece.as_mut_slice(),
-        stage,
-        &pool.relay,
-    );
-    pool.put_piece(rt, piece);
+    let (pass, end) = talk(work, pass, link, gateway, piece.as_mut_slice(), &pool.relay);
+    pool.put_piece(work.rt, piece);
     (pass, end)
 }

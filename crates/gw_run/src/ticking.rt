@@ -1,16 +1,16 @@
-//! The ticks of a shift.
+//! The ticks of a shift. They are made in the clock's thread, and the shift's lock is held for
+//! calls alone.
 
 ghost use Rattle.std.specs.Prelude.{◌≡◌, Some, None, MatchResult};
 ghost use Rattle.gw_run.specs.Clock.{AddsOfClock, OpensAs};
 
 use crate::pool::Pool;
-use gw_link::{End, Phase, Stage, call, dropped, is_halted};
+use gw_link::{End, Phase, Work, call, is_halted, only_memory};
+use gw_shift::Pass;
 use gw_shift::gw_node::{Out, Step};
-use gw_shift::{Pass, Shift};
 use gw_wire::{FieldClock, Post};
 use jr_disk::Disk;
 use rep_model::Replica;
-use std::alloc::Global;
 use std::sync::atomic::Ordering;
 use std::sync::{Arc, Wait};
 use std::time::Clock;
@@ -19,7 +19,7 @@ use std::time::Clock;
 pub const MOST_TICKS: u64 = 1_024;
 
 /// How many milliseconds pass before the clock is looked at again.
-const A_LOOK: u64 = 100;
+const CLOCK_WAIT_MS: u64 = 100;
 
 /// How many milliseconds pass after the gateway stood still, before it ticks: what clients sent
 /// meanwhile is read first.
@@ -27,7 +27,8 @@ const TIME_TO_READ: u64 = 1_000;
 
 /// Ticks in each second while the shift is serving: until a tick gives nothing, and no oftener than
 /// `MOST_TICKS`. What a tick has to send is sent at once. A second in which it has ticked in an
-/// earlier shift is left out, unless that shift had no call left for it.
+/// earlier shift is left out, unless that shift had no call left for it. Runs in the clock's
+/// thread; it takes the shift's lock for a call, and no lock to send.
 ///
 /// A tick that finds the gateway halted is the last one: the next call opens the gateway anew, and
 /// the shift is closed, however that ends.
@@ -37,65 +38,61 @@ const TIME_TO_READ: u64 = 1_000;
 /// `Full`, `Behind` or `Memory` where a call could not be made.
 #[tactic(auto, using(crate::proofs::Clock::clock_later, crate::proofs::Clock::clock_none))]
 pub fn tick_all<T: Wait + Clock, R: Replica, D: Disk + Drop, P: Post, S: Drop>(
-    rt: &T,
-    alloc: Global,
-    shift: &Shift<R, D>,
+    work: &Work<'_, T, R, D>,
     pass: Pass,
-    stage: &Stage,
     post: &P,
     pool: &Pool<S>,
 ) -> (Pass, Option<End>)
     ensures { AddsOfClock pass result.1 result.0 }
 {
+    let rt = work.rt;
     let mut pass = pass;
     for _ in rt.forever() {
-        if stage.phase(rt) != Phase::Serving {
+        if work.stage.phase(rt) != Phase::Serving {
             return (pass, None);
         }
-        let (after, end) = tick_in_turn(rt, alloc, shift, pass, stage, post, pool);
+        let (after, end) = tick_in_turn(work, pass, post, pool);
         pass = after;
         if end.is_some() {
-            stage.close(rt);
+            work.stage.close(rt);
             return (pass, end);
         }
-        stage.wait(rt, Phase::Serving, A_LOOK);
+        work.stage.wait(rt, Phase::Serving, CLOCK_WAIT_MS);
     }
     unreachable!()
 }
 
-/// Ticks where the clock has not ticked in this second. If the machine, a sync or a shift's end
+/// Ticks if the clock has not ticked in this second. If the machine, a sync or a shift's end
 /// held the gateway up for seconds, nothing could be sent, or more has come than it has read, it
 /// reads first what clients have sent meanwhile. Before it serves it does not tick. If the date was
 /// set, the shift closes: after it moments go by the new date.
 #[tactic(auto, using(crate::proofs::Clock::clock_none))]
 fn tick_in_turn<T: Wait + Clock, R: Replica, D: Disk + Drop, P: Post, S: Drop>(
-    rt: &T,
-    alloc: Global,
-    shift: &Shift<R, D>,
+    work: &Work<'_, T, R, D>,
     pass: Pass,
-    stage: &Stage,
     post: &P,
     pool: &Pool<S>,
 ) -> (Pass, Option<End>)
     ensures { AddsOfClock pass result.1 result.0 }
 {
+    let rt = work.rt;
     let _ = pool.rounds.fetch_add(1, Ordering::SeqCst);
     if pool.outage.lasts(rt, post) {
-        stage.wait(rt, Phase::Serving, TIME_TO_READ);
-        return tick_still(rt, alloc, shift, pass, stage, post, pool.clock.moment());
+        work.stage.wait(rt, Phase::Serving, TIME_TO_READ);
+        return tick_still(work, pass, post, pool.clock.moment());
     }
     let Some(second) = pool.clock.look(rt) else {
-        stage.wait(rt, Phase::Serving, TIME_TO_READ);
+        work.stage.wait(rt, Phase::Serving, TIME_TO_READ);
         return (pass, None);
     };
     if pool.clock.has_leapt(rt) {
-        stage.close(rt);
+        work.stage.close(rt);
         return (pass, None);
     }
     if pool.listening.is_on() || pool.is_behind(second) || !pool.may_tick(second) {
         return (pass, None);
     }
-    let (pass, end) = tick_out(rt, alloc, shift, pass, stage, post, &pool.clock, second);
+    let (pass, end) = tick_out(work, pass, post, &pool.clock, second);
     if end == Some(End::Full) {
         pool.tick_again(second);
     }
@@ -106,17 +103,14 @@ fn tick_in_turn<T: Wait + Clock, R: Replica, D: Disk + Drop, P: Post, S: Drop>(
 /// but a gateway that is halted is opened anew.
 #[tactic(auto, using(crate::proofs::Clock::clock_none))]
 fn tick_still<T: Wait, R: Replica, D: Disk + Drop, P: Post>(
-    rt: &T,
-    alloc: Global,
-    shift: &Shift<R, D>,
+    work: &Work<'_, T, R, D>,
     pass: Pass,
-    stage: &Stage,
     post: &P,
     moment: u64,
 ) -> (Pass, Option<End>)
     ensures { AddsOfClock pass result.1 result.0 }
 {
-    let (pass, ticked) = tick_once(rt, alloc, shift, pass, stage, post, moment);
+    let (pass, ticked) = tick_once(work, pass, post, moment);
     match ticked {
         Ok(_) => (pass, None),
         Err(end) => (pass, Some(end)),
@@ -127,11 +121,8 @@ fn tick_still<T: Wait, R: Replica, D: Disk + Drop, P: Post>(
 /// the round is over: the next one takes clients for lost only by what was read since.
 #[tactic(auto, using(crate::proofs::Clock::clock_later, crate::proofs::Clock::clock_none))]
 fn tick_out<T: Wait + Clock, R: Replica, D: Disk + Drop, P: Post>(
-    rt: &T,
-    alloc: Global,
-    shift: &Shift<R, D>,
+    work: &Work<'_, T, R, D>,
     pass: Pass,
-    stage: &Stage,
     post: &P,
     clock: &FieldClock,
     second: u64,
@@ -141,10 +132,10 @@ fn tick_out<T: Wait + Clock, R: Replica, D: Disk + Drop, P: Post>(
     let moment = clock.moment_of(second);
     let mut pass = pass;
     for _ in 0..MOST_TICKS {
-        if clock.look(rt).is_none() {
+        if clock.look(work.rt).is_none() {
             return (pass, None);
         }
-        let (after, ticked) = tick_once(rt, alloc, shift, pass, stage, post, moment);
+        let (after, ticked) = tick_once(work, pass, post, moment);
         pass = after;
         match ticked {
             Ok(true) => {}
@@ -158,21 +149,18 @@ fn tick_out<T: Wait + Clock, R: Replica, D: Disk + Drop, P: Post>(
 /// Ticks once, at this moment, and sends what that gave. Says whether it gave anything. Where the
 /// gateway is halted, the next call opens it anew.
 fn tick_once<T: Wait, R: Replica, D: Disk + Drop, P: Post>(
-    rt: &T,
-    alloc: Global,
-    shift: &Shift<R, D>,
+    work: &Work<'_, T, R, D>,
     pass: Pass,
-    stage: &Stage,
     post: &P,
     moment: u64,
 ) -> (Pass, Result<bool, End>)
     ensures { MatchResult result.1 (λ gave. AddsOfClock pass None result.0)
         (λ end. AddsOfClock pass (Some end) result.0) }
 {
-    let Ok(step) = Arc::new(alloc, Step::Tick { now: moment }) else {
+    let Ok(step) = Arc::new(work.alloc, Step::Tick { now: moment }) else {
         return (pass, Err(End::Memory));
     };
-    let (pass, answered) = call(rt, alloc, shift, pass, step, stage);
+    let (pass, answered) = call(work, pass, step);
     match answered {
         Err(end) => (pass, Err(end)),
         Ok(Ok(out)) => {
@@ -183,30 +171,27 @@ fn tick_once<T: Wait, R: Replica, D: Disk + Drop, P: Post>(
         }
         Ok(Err(fault)) if is_halted(&fault) => {
             drop(fault);
-            let (pass, end) = open_anew(rt, alloc, shift, pass, stage);
+            let (pass, end) = open_anew(work, pass);
             (pass, Err(end))
         }
-        Ok(Err(fault)) => match dropped(&fault) {
+        Ok(Err(fault)) => match only_memory(&fault) {
             Ok(()) => (pass, Ok(false)),
             Err(_) => (pass, Err(End::Memory)),
         },
     }
 }
 
-/// Opens the gateway anew, and says how that ended.
+/// Opens the gateway again by a call, and says how that ended.
 fn open_anew<T: Wait, R: Replica, D: Disk + Drop>(
-    rt: &T,
-    alloc: Global,
-    shift: &Shift<R, D>,
+    work: &Work<'_, T, R, D>,
     pass: Pass,
-    stage: &Stage,
 ) -> (Pass, End)
     ensures { OpensAs pass result.1 result.0 }
 {
-    let Ok(step) = Arc::new(alloc, Step::Reopen) else {
+    let Ok(step) = Arc::new(work.alloc, Step::Reopen) else {
         return (pass, End::Memory);
     };
-    let (pass, answered) = call(rt, alloc, shift, pass, step, stage);
+    let (pass, answered) = call(work, pass, step);
     match answered {
         Ok(Ok(_)) => (pass, End::Reopened),
         Ok(Err(_)) => (pass, End::Halted),

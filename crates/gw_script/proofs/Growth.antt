@@ -8,8 +8,8 @@ use Rattle.gw_script.specs.declared.command.Command.{Command}
 use Rattle.gw_script.specs.declared.fault.LineFault.{LineFault}
 use Rattle.gw_script.specs.declared.fault.LineFault.TheVariants as faults
 use Rattle.gw_script.specs.declared.script.Script.{Script}
-use Rattle.gw_script.specs.Commands.{Spells}
-use Rattle.gw_script.specs.inner.Commands.{Reads}
+use Rattle.gw_script.specs.Commands.{SpellsCommand}
+use Rattle.gw_script.specs.inner.Commands.{ReadsCommand}
 use Rattle.std.proofs.Common.{rules}
 use Rattle.std.proofs.lemmas.Bool.{eq-eqb, eqb-true}
 use Rattle.std.proofs.lemmas.List.Elements.{All-nil, All-push}
@@ -18,9 +18,9 @@ use Rattle.std.proofs.lemmas.List.Quantifiers.{all_pairs_push}
 use Rattle.sn_local.specs.declared.config.Config.{Config}
 use Rattle.gw_script.specs.declared.command.Command.TheVariants as commands
 use Rattle.gw_world.specs.declared.event.Call.{Call}
-use Rattle.gw_script.specs.Rows.{BeginsRow, SpellCalls, SpellsNoCall}
+use Rattle.gw_script.specs.Rows.{IsRowLine, SpellCalls, SpellsNoCall}
 use Rattle.gw_script.specs.inner.Rows.{LineRead, NoLineAt, NoCallBehind}
-use Rattle.gw_script.specs.Scripts.{Adds, config_of, with_row, has_gateway, Extends, IsScriptOf, AreGateways, IsBadLine, IsBadCall}
+use Rattle.gw_script.specs.Scripts.{AddsCommand, plain_config, with_row, has_gateway, Extends, IsScriptOf, AreGateways, IsBadLine, IsBadCall}
 use Rattle.gw_script.specs.Scripts.IsScriptOf.{none, more, row}
 
 -- the octets of lines
@@ -28,7 +28,7 @@ abbrev pub octets_of : List (Bor (List ℕ)) → List (List ℕ)
 octets_of lines = map (λ (line : Bor (List ℕ)). line.now) lines
 
 -- a line that spells nothing, and is not empty, extends no script
-pub unreadable : (before : Script) (line : List ℕ) (r : Result Command LineFault) → Reads (Spells line) r → r ≡ Err faults.NotACommand
+pub unreadable : (before : Script) (line : List ℕ) (r : Result Command LineFault) → ReadsCommand (SpellsCommand line) r → r ≡ Err faults.NotACommand
     → line ≢ [] → (after : Script) → Extends before line after → ⊥
 unreadable before line r reads refused some after (inl p) = some p.0
 unreadable before line r reads refused some after (inr (command, spells, adds)) = (rw refused at reads) command spells
@@ -74,7 +74,7 @@ others configs number k d absent within same =
 pub tells : (before : Script) (number id : ℕ) (name : List ℕ) (place : ℕ) (config made : Config) (configs : List Config) → before.events ≡ []
     → position (λ (c : Config). c.gateway == number) before.configs ≡ Some place → slice_get before.configs place ≡ Some config
     → IsTrue (is_table (config.predefined ++ (id, name) ∷ [])) → made ≡ record config { predefined = config.predefined ++ (id, name) ∷ [] }
-    → configs ≡ set before.configs place made → Adds before (commands.Predefine number id name) (record { configs = configs; events = before.events })
+    → configs ≡ set before.configs place made → AddsCommand before (commands.Predefine number id name) (record { configs = configs; events = before.events })
 tells before number id name place config made configs quiet at there table is changed =
     (quiet, place, config, at, there, table, λ i. record { configs = (changed ∙ ap (λ (m : Config). set before.configs place m) is) i; events = quiet i })
 
@@ -82,7 +82,7 @@ tells before number id name place config made configs quiet at there table is ch
 pub lasts : (before : Script) (number seconds place : ℕ) (config made : Config) (configs : List Config) → before.events ≡ []
     → position (λ (c : Config). c.gateway == number) before.configs ≡ Some place → slice_get before.configs place ≡ Some config
     → made ≡ record config { lifetime = seconds }
-    → configs ≡ set before.configs place made → Adds before (commands.Lifetime number seconds) (record { configs = configs; events = before.events })
+    → configs ≡ set before.configs place made → AddsCommand before (commands.Lifetime number seconds) (record { configs = configs; events = before.events })
 lasts before number seconds place config made configs quiet at there is changed =
     (quiet, place, config, at, there, λ i. record { configs = (changed ∙ ap (λ (m : Config). set before.configs place m) is) i; events = quiet i })
 
@@ -117,8 +117,8 @@ gateways lines script (more earlier line before after read (inr (commands.Gatewa
     let P : Script → Type 0 = λ s. AreGateways s.configs in
     let old : AreGateways before.configs = gateways earlier before read in
     subst P (sym adds.3) (record {
-      some = All-push (λ (config : Config). config.gateway ≢ 0) before.configs (config_of number) old.some adds.1;
-      different = all_pairs_push (λ (a b : Config). a.gateway ≢ b.gateway) before.configs (config_of number) old.different (λ k d within. others before.configs number k d adds.2 within);
+      some = All-push (λ (config : Config). config.gateway ≢ 0) before.configs (plain_config number) old.some adds.1;
+      different = all_pairs_push (λ (a b : Config). a.gateway ≢ b.gateway) before.configs (plain_config number) old.different (λ k d within. others before.configs number k d adds.2 within);
     })
 gateways lines script (more earlier line before after read (inr (commands.Predefine number id name, spells, adds))) =
     let P : Script → Type 0 = λ s. AreGateways s.configs in
@@ -142,7 +142,7 @@ parted (x ∷ xs) (suc at) n d within =
 
 -- the lines read so far, and a row behind them
 row_more : (lines : List (List ℕ)) (at next gateway : ℕ) (calls : List Call) (before : Script) → at < length lines
-    → IsScriptOf (take at lines) before → BeginsRow (get_or lines at []) gateway (length calls)
+    → IsScriptOf (take at lines) before → IsRowLine (get_or lines at []) gateway (length calls)
     → SpellCalls gateway (take (length calls) (drop (at + 1) lines)) calls → next ≡ at + length calls + 1
     → IsScriptOf (take next lines) (with_row before gateway calls)
 row_more lines at next gateway calls before within read begins spelled is =

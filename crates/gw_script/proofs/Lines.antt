@@ -11,8 +11,8 @@ use Rattle.gw_script.specs.declared.fault.LineFault.{LineFault}
 use Rattle.gw_script.specs.declared.fault.LineFault.TheVariants as faults
 use Rattle.gw_world.specs.declared.event.Event.TheVariants as events
 use Rattle.gw_script.specs.declared.command.Command.TheVariants as commands
-use Rattle.gw_script.specs.Commands.{fields_of, text_of, IsAddress, IsFailure, IsSpared, Says, Spells}
-use Rattle.gw_script.specs.inner.Commands.{Reads}
+use Rattle.gw_script.specs.Commands.{fields_of, word_text, WritesAddress, IsFailure, IsSpared, Says, SpellsCommand}
+use Rattle.gw_script.specs.inner.Commands.{ReadsCommand}
 use Rattle.gw_script.specs.Octets.{IsHex}
 use Rattle.sn_topic.specs.Topics.{IsName}
 use Rattle.hex.specs.Hex.{decode_of}
@@ -34,7 +34,7 @@ word_at text =
     cond (bytes_eq text (codes "restart")) (Some words.Restart) (
     cond (bytes_eq text (codes "show")) (Some words.Show) None))))))))))
 
-word_at-text : (word : Word) → word_at (text_of word) ≡ Some word
+word_at-text : (word : Word) → word_at (word_text word) ≡ Some word
 word_at-text words.Gateway = refl
 word_at-text words.Predefine = refl
 word_at-text words.Lifetime = refl
@@ -48,15 +48,15 @@ word_at-text words.Restart = refl
 word_at-text words.Show = refl
 
 -- no two words have one text
-pub one_word : (v w : Word) → text_of v ≡ text_of w → v ≡ w
+pub one_word : (v w : Word) → word_text v ≡ word_text w → v ≡ w
 one_word v w same = let a = word_at-text v in let b = word_at-text w in let e = ap word_at same in cc
 
 -- what the fields after a line's word say, the line spells
 pub spelled : (line first : List ℕ) (rest : List (List ℕ)) (word : Word) (r : Result Command LineFault)
-    → fields_of line ≡ first ∷ rest → text_of word ≡ first → Reads (Says word rest) r → Reads (Spells line) r
+    → fields_of line ≡ first ∷ rest → word_text word ≡ first → ReadsCommand (Says word rest) r → ReadsCommand (SpellsCommand line) r
 spelled line first rest word (Ok command) cut named said = (word, rest, cut ∙ ap (λ (text : List ℕ). text ∷ rest) (sym named), said)
 spelled line first rest word (Err faults.NotACommand) cut named none = λ command (v, fields, other, said).
-    let same : text_of v ≡ text_of word = cc in
+    let same : word_text v ≡ word_text word = cc in
     let tails : fields ≡ rest = cc in
     let P : List (List ℕ) → Type 0 = λ xs. Says word xs command in
     let Q : Word → Type 0 = λ w. Says w fields command in
@@ -64,8 +64,8 @@ spelled line first rest word (Err faults.NotACommand) cut named none = λ comman
 spelled line first rest word (Err faults.Memory) cut named h = tt
 
 -- a line whose first field is no word spells nothing
-pub unspelled : (line first : List ℕ) (rest : List (List ℕ)) → fields_of line ≡ first ∷ rest → ((word : Word) → text_of word ≡ first → ⊥)
-    → (command : Command) → Spells line command → ⊥
+pub unspelled : (line first : List ℕ) (rest : List (List ℕ)) → fields_of line ≡ first ∷ rest → ((word : Word) → word_text word ≡ first → ⊥)
+    → (command : Command) → SpellsCommand line command → ⊥
 unspelled line first rest cut none command (v, fields, other, said) = none v cc
 
 -- where the fourth field writes no octets, the fields say no frame
@@ -94,7 +94,7 @@ one_number : (bits : ℕ) (a b : List ℕ) (m n : ℕ) → a ≡ b → IsNumber 
 one_number bits a b m n same p q = sym p.1 ∙ ap value_of same ∙ q.1
 
 -- and one address
-one_address : (a b : List ℕ) (m n : Addr) → a ≡ b → IsAddress a m → IsAddress b n → m ≡ n
+one_address : (a b : List ℕ) (m n : Addr) → a ≡ b → WritesAddress a m → WritesAddress b n → m ≡ n
 one_address a b m n same p q =
     let hosts : m.host ≡ n.host = p.0 ∙ sym q.0 in
     let ports : m.port ≡ n.port = one_number 16 a b m.port n.port same p.1 q.1 in
@@ -161,7 +161,7 @@ gateway_says fields c said = absurd said
 
 frame_says : (fields : List (List ℕ)) (c : Command) → Says words.Frame fields c
     → (a b m o : List ℕ) × (g : ℕ) × (from : Addr) × (bytes : List ℕ) × (now : ℕ) × (fields ≡ a ∷ b ∷ m ∷ o ∷ [])
-    × (c ≡ commands.Happens (events.Frame g from bytes now)) × IsNumber 8 a g × IsAddress b from × IsNumber 64 m now × IsHex o bytes
+    × (c ≡ commands.Happens (events.Frame g from bytes now)) × IsNumber 8 a g × WritesAddress b from × IsNumber 64 m now × IsHex o bytes
 frame_says (a ∷ b ∷ m ∷ o ∷ []) (commands.Happens (events.Frame g from bytes now)) said =
     (a, b, m, o, g, from, bytes, now, refl, refl, said.0, said.1, said.2, said.3)
 frame_says fields c said = absurd said
@@ -284,16 +284,16 @@ one_saying words.Restart fields c d p q =
     let keep : x.3 ≡ y.3 = one_spared x.1 y.1 x.3 y.3 (cc) x.7 y.7 in cc
 
 -- a line spells one command
-pub one_meaning : (line : List ℕ) (c d : Command) → Spells line c → Spells line d → c ≡ d
+pub one_meaning : (line : List ℕ) (c d : Command) → SpellsCommand line c → SpellsCommand line d → c ≡ d
 one_meaning line c d (v, xs, e, p) (w, ys, f, q) =
-    let same : text_of w ≡ text_of v = cc in
+    let same : word_text w ≡ word_text v = cc in
     let tails : ys ≡ xs = cc in
     let P : List (List ℕ) → Type 0 = λ fields. Says v fields d in
     let Q : Word → Type 0 = λ word. Says word ys d in
     one_saying v xs c d p (subst P tails (subst Q (one_word w v same) q))
 
 -- a line that spells a command is read as it, unless memory runs out
-pub read_as : (line : List ℕ) (r : Result Command LineFault) → Reads (Spells line) r → (command : Command) → Spells line command
+pub read_as : (line : List ℕ) (r : Result Command LineFault) → ReadsCommand (SpellsCommand line) r → (command : Command) → SpellsCommand line command
     → (r ≡ Ok command) ⊎ (r ≡ Err faults.Memory)
 read_as line (Ok other) reads command spells = inl (ap (λ (c : Command). Ok c) (one_meaning line other command reads spells))
 read_as line (Err faults.NotACommand) reads command spells = absurd (reads command spells)

@@ -10,10 +10,10 @@ use Rattle.gw_script.specs.declared.command.Command.TheVariants as commands
 use Rattle.gw_script.specs.declared.fault.LineFault.{LineFault}
 use Rattle.gw_script.specs.declared.fault.LineFault.TheVariants as faults
 use Rattle.gw_script.specs.declared.script.Script.{Script}
-use Rattle.gw_script.specs.Commands.{Spells}
-use Rattle.gw_script.specs.Rows.{BeginsRow, SpellsCall, SpellCalls, SpellsNoCall}
+use Rattle.gw_script.specs.Commands.{SpellsCommand}
+use Rattle.gw_script.specs.Rows.{IsRowLine, SpellsCall, SpellCalls, SpellsNoCall}
 use Rattle.gw_script.specs.Scripts.{with_row, Extends}
-use Rattle.gw_script.specs.inner.Commands.{Reads}
+use Rattle.gw_script.specs.inner.Commands.{ReadsCommand}
 use Rattle.gw_script.specs.inner.Rows.{IsNoCall, RowRead, NoLineAt, NoCallBehind}
 use Rattle.gw_script.proofs.Growth.{octets_of}
 
@@ -32,7 +32,7 @@ at_place : (lines : List (Bor (List ℕ))) (i : ℕ) (d : Bor (List ℕ)) → i 
 at_place lines i d within = get_or-map (λ (b : Bor (List ℕ)). b.now) lines i d [] within
 
 -- a line is no call where its reader refuses
-pub refuses : (gateway : ℕ) (line : List ℕ) (r : Result Command LineFault) → Reads (Spells line) r → r ≡ Err faults.NotACommand
+pub refuses : (gateway : ℕ) (line : List ℕ) (r : Result Command LineFault) → ReadsCommand (SpellsCommand line) r → r ≡ Err faults.NotACommand
     → (call : Call) → SpellsCall gateway line call → ⊥
 refuses gateway line r reads refused call = (rw refused at reads) (commands.Happens (by_itself gateway call))
 
@@ -82,13 +82,13 @@ behind lines part n is =
 -- a line that begins a row, and the calls of the lines behind it
 pub row_read : (lines part : List (Bor (List ℕ))) (at gateway count next n : ℕ) (d : Bor (List ℕ)) (calls : List Call) (old new : Script)
     → at < length lines → part ≡ take (length lines - (at + 1)) (drop (at + 1) lines)
-    → BeginsRow (get_or lines at d).now gateway count → n ≡ length calls → n ≡ count → n ≤ length part
+    → IsRowLine (get_or lines at d).now gateway count → n ≡ length calls → n ≡ count → n ≤ length part
     → SpellCalls gateway (take count (octets_of part)) calls → next ≡ at + 1 + n → new ≡ with_row old gateway calls
     → RowRead old (octets_of lines) at new next
 row_read lines part at gateway count next n d calls old new within rest begins size many most spelled told made =
     let all : count ≡ length calls = omega arith in
-    let P : ℕ → Type 0 = λ m. BeginsRow (get_or lines at d).now gateway m in
-    let Q : List ℕ → Type 0 = λ line. BeginsRow line gateway (length calls) in
+    let P : ℕ → Type 0 = λ m. IsRowLine (get_or lines at d).now gateway m in
+    let Q : List ℕ → Type 0 = λ line. IsRowLine line gateway (length calls) in
     let R : ℕ → Type 0 = λ m. SpellCalls gateway (take m (octets_of part)) calls in
     let S : List (List ℕ) → Type 0 = λ xs. SpellCalls gateway (take (length calls) xs) calls in
     let left : length part ≡ length lines - (at + 1) = ap (λ (xs : List (Bor (List ℕ))). length xs) (rest ∙ take_rest lines (at + 1)) ∙ length-drop (at + 1) lines in (
@@ -103,17 +103,17 @@ row_read lines part at gateway count next n d calls old new within rest begins s
 
 -- a line that begins a row, and a line behind it that spells no call
 pub call_behind : (lines part : List (Bor (List ℕ))) (at gateway count k : ℕ) (d : Bor (List ℕ)) → at < length lines
-    → part ≡ take (length lines - (at + 1)) (drop (at + 1) lines) → BeginsRow (get_or lines at d).now gateway count
+    → part ≡ take (length lines - (at + 1)) (drop (at + 1) lines) → IsRowLine (get_or lines at d).now gateway count
     → IsNoCall gateway count (octets_of part) (at + 1) k → NoCallBehind (octets_of lines) at k
 call_behind lines part at gateway count k d within rest begins none =
-    let P : List ℕ → Type 0 = λ line. BeginsRow line gateway count in
+    let P : List ℕ → Type 0 = λ line. IsRowLine line gateway count in
     let Q : List (List ℕ) → Type 0 = λ xs. IsNoCall gateway count xs (at + 1) k in
     (gateway, count, subst P (sym (at_place lines at d within)) begins, subst Q (behind lines part (at + 1) rest) none)
 
 -- a line that says no command in its place, and begins no row
 pub no_line : (lines : List (Bor (List ℕ))) (at : ℕ) (d : Bor (List ℕ)) (old : Script) → at < length lines
     → ((after : Script) → Extends old (get_or lines at d).now after → ⊥)
-    → ((gateway count : ℕ) → BeginsRow (get_or (octets_of lines) at []) gateway count → ⊥) → NoLineAt old (octets_of lines) at
+    → ((gateway count : ℕ) → IsRowLine (get_or (octets_of lines) at []) gateway count → ⊥) → NoLineAt old (octets_of lines) at
 no_line lines at d old within refused none =
     let P : List ℕ → Type 0 = λ line. (after : Script) → Extends old line after → ⊥ in
     (subst P (sym (at_place lines at d within)) refused, none)

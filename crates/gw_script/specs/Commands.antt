@@ -20,22 +20,22 @@ abbrev pub lines_of : List ℕ → List (List ℕ)
 lines_of text = slice_split (λ b. b == 10) text
 
 -- how a command begins
-abbrev pub text_of : Word → List ℕ
-text_of words.Gateway = codes "gateway"
-text_of words.Predefine = codes "predefine"
-text_of words.Lifetime = codes "lifetime"
-text_of words.Frame = codes "frame"
-text_of words.Tick = codes "tick"
-text_of words.Take = codes "take"
-text_of words.Answer = codes "answer"
-text_of words.Fail = codes "fail"
-text_of words.Compact = codes "compact"
-text_of words.Restart = codes "restart"
-text_of words.Show = codes "show"
+abbrev pub word_text : Word → List ℕ
+word_text words.Gateway = codes "gateway"
+word_text words.Predefine = codes "predefine"
+word_text words.Lifetime = codes "lifetime"
+word_text words.Frame = codes "frame"
+word_text words.Tick = codes "tick"
+word_text words.Take = codes "take"
+word_text words.Answer = codes "answer"
+word_text words.Fail = codes "fail"
+word_text words.Compact = codes "compact"
+word_text words.Restart = codes "restart"
+word_text words.Show = codes "show"
 
 -- the text writes the port of an address of host 0
-abbrev pub IsAddress : List ℕ → Addr → Type 0
-IsAddress text address = (address.host ≡ 0) × IsNumber 16 text address.port
+abbrev pub WritesAddress : List ℕ → Addr → Type 0
+WritesAddress text address = (address.host ≡ 0) × IsNumber 16 text address.port
 
 -- the text says how many unsynced bytes of a slot survive: so many, or all, which is 2^64 - 1
 abbrev pub IsSpared : List ℕ → ℕ → Type 0
@@ -55,7 +55,7 @@ Says words.Lifetime (number ∷ seconds ∷ []) (commands.Lifetime g s) =
     IsNumber 8 number g × IsNumber 32 seconds s
 Says words.Frame (gateway ∷ address ∷ moment ∷ octets ∷ [])
     (commands.Happens (events.Frame g from bytes now)) =
-    IsNumber 8 gateway g × IsAddress address from × IsNumber 64 moment now × IsHex octets bytes
+    IsNumber 8 gateway g × WritesAddress address from × IsNumber 64 moment now × IsHex octets bytes
 Says words.Tick (gateway ∷ moment ∷ []) (commands.Happens (events.Tick g now)) =
     IsNumber 8 gateway g × IsNumber 64 moment now
 Says words.Take (gateway ∷ delta ∷ []) (commands.Happens (events.Take g d)) =
@@ -71,7 +71,7 @@ Says words.Show (gateway ∷ []) (commands.Happens (events.Show g)) = IsNumber 8
 Says word fields command = ⊥
 
 -- the line spells the command: a word and fields, with a space between each two
-abbrev pub Spells : List ℕ → Command → Type 0
-Spells line command =
-    (word : Word) × (fields : List (List ℕ)) × (fields_of line ≡ text_of word ∷ fields)
+abbrev pub SpellsCommand : List ℕ → Command → Type 0
+SpellsCommand line command =
+    (word : Word) × (fields : List (List ℕ)) × (fields_of line ≡ word_text word ∷ fields)
     × Says word fields command

@@ -4,7 +4,7 @@ use Rattle.octets.specs.Decimal.{IsNumber}
 use Rattle.gw_world.specs.declared.event.Call.{Call}
 use Rattle.gw_world.specs.Field.{by_itself}
 use Rattle.gw_script.specs.declared.command.Command.TheVariants as commands
-use Rattle.gw_script.specs.Commands.{fields_of, Spells}
+use Rattle.gw_script.specs.Commands.{fields_of, SpellsCommand}
 
 -- the fields say that so many calls come to a gateway together, one at least
 abbrev pub SaysRow : List (List ℕ) → ℕ → ℕ → Type 0
@@ -13,12 +13,12 @@ SaysRow (word ∷ number ∷ many ∷ []) gateway count =
 SaysRow fields gateway count = ⊥
 
 -- the line says that so many calls come to a gateway together
-abbrev pub BeginsRow : List ℕ → ℕ → ℕ → Type 0
-BeginsRow line gateway count = SaysRow (fields_of line) gateway count
+abbrev pub IsRowLine : List ℕ → ℕ → ℕ → Type 0
+IsRowLine line gateway count = SaysRow (fields_of line) gateway count
 
 -- the line spells the call, as it does where that comes to the gateway by itself
 abbrev pub SpellsCall : ℕ → List ℕ → Call → Type 0
-SpellsCall gateway line call = Spells line (commands.Happens (by_itself gateway call))
+SpellsCall gateway line call = SpellsCommand line (commands.Happens (by_itself gateway call))
 
 -- each of the lines spells the call in its place
 abbrev pub SpellCalls : ℕ → List (List ℕ) → List Call → Type 0

@@ -8,12 +8,12 @@ use Rattle.gw_script.specs.declared.command.Command.TheVariants as commands
 use Rattle.gw_script.specs.declared.script.Script.{Script}
 use Rattle.gw_world.specs.declared.event.Call.{Call}
 use Rattle.gw_world.specs.declared.event.Event.TheVariants.{Together}
-use Rattle.gw_script.specs.Commands.{Spells}
-use Rattle.gw_script.specs.Rows.{BeginsRow, SpellCalls, SpellsNoCall}
+use Rattle.gw_script.specs.Commands.{SpellsCommand}
+use Rattle.gw_script.specs.Rows.{IsRowLine, SpellCalls, SpellsNoCall}
 
 -- a gateway whose settings are its number alone
-abbrev pub config_of : ℕ → Config
-config_of number =
+abbrev pub plain_config : ℕ → Config
+plain_config number =
     record { gateway = number; advertise = 0; lifetime = 0; field = []; predefined = [] }
 
 -- whether a gateway has the number
@@ -28,11 +28,11 @@ empty_script = record { configs = []; events = [] }
 -- events, its number is not 0, and no other has it. A predefined topic id comes before all events
 -- too, for a gateway that is there, and is not 0000, FFFF or an id that the gateway has already. A
 -- lifetime comes before all events, for a gateway that is there; the last one counts.
-abbrev pub Adds : Script → Command → Script → Type 0
-Adds before (commands.Gateway number) after =
+abbrev pub AddsCommand : Script → Command → Script → Type 0
+AddsCommand before (commands.Gateway number) after =
     (before.events ≡ []) × (number ≢ 0) × (has_gateway before.configs number ≡ false)
-    × (after ≡ record { configs = before.configs ++ config_of number ∷ []; events = [] })
-Adds before (commands.Predefine number id name) after =
+    × (after ≡ record { configs = before.configs ++ plain_config number ∷ []; events = [] })
+AddsCommand before (commands.Predefine number id name) after =
     (before.events ≡ []) × (place : ℕ) × (config : Config)
     × (position (λ (c : Config). c.gateway == number) before.configs ≡ Some place)
     × (slice_get before.configs place ≡ Some config)
@@ -42,7 +42,7 @@ Adds before (commands.Predefine number id name) after =
           (record config { predefined = config.predefined ++ (id, name) ∷ [] });
       events = [];
     })
-Adds before (commands.Lifetime number seconds) after =
+AddsCommand before (commands.Lifetime number seconds) after =
     (before.events ≡ []) × (place : ℕ) × (config : Config)
     × (position (λ (c : Config). c.gateway == number) before.configs ≡ Some place)
     × (slice_get before.configs place ≡ Some config)
@@ -50,7 +50,7 @@ Adds before (commands.Lifetime number seconds) after =
       configs = slice_set before.configs place (record config { lifetime = seconds });
       events = [];
     })
-Adds before (commands.Happens event) after =
+AddsCommand before (commands.Happens event) after =
     after ≡ record { configs = before.configs; events = before.events ++ event ∷ [] }
 
 -- a script, and then calls that come to a gateway together
@@ -62,9 +62,10 @@ with_row before gateway calls =
 abbrev pub Extends : Script → List ℕ → Script → Type 0
 Extends before line after =
     ((line ≡ []) × (after ≡ before))
-    ⊎ ((command : Command) × Spells line command × Adds before command after)
+    ⊎ ((command : Command) × SpellsCommand line command × AddsCommand before command after)
 
--- the lines make up the script; behind a line by which calls come together, each line is one of them
+-- the lines make up the script; behind a line by which calls come together, each line is one of
+-- them
 pub data IsScriptOf : List (List ℕ) → Script → Type 0 where
   none : IsScriptOf [] empty_script
   more : (lines : List (List ℕ)) (line : List ℕ) (before after : Script) → IsScriptOf lines before
@@ -72,7 +73,7 @@ pub data IsScriptOf : List (List ℕ) → Script → Type 0 where
       → IsScriptOf (lines ++ line ∷ []) after
   row : (lines : List (List ℕ)) (line : List ℕ) (behind : List (List ℕ)) (gateway : ℕ)
       (calls : List Call) (before : Script) → IsScriptOf lines before
-      → BeginsRow line gateway (length calls) → SpellCalls gateway behind calls
+      → IsRowLine line gateway (length calls) → SpellCalls gateway behind calls
       → IsScriptOf (lines ++ line ∷ behind) (with_row before gateway calls)
 
 -- gateways as a field may have them: each has a number that is not 0, and no two have the same
@@ -89,7 +90,7 @@ pub record IsBadLine (lines : List (List ℕ)) (number : ℕ) : Type 0 where
   pub there : slice_get lines (number - 1) ≡ Some line
   pub read : IsScriptOf (take (number - 1) lines) before
   pub refused : (after : Script) → Extends before line after → ⊥
-  pub no_row : (gateway count : ℕ) → BeginsRow line gateway count → ⊥
+  pub no_row : (gateway count : ℕ) → IsRowLine line gateway count → ⊥
 
 -- The line of this number, from 1, is to be a call and is none, or is not there. The lines before
 -- `head` make up a script. The next one says that calls come together, and the lines between spell
@@ -103,7 +104,7 @@ pub record IsBadCall (lines : List (List ℕ)) (number : ℕ) : Type 0 where
   pub calls : List Call
   pub read : IsScriptOf (take head lines) before
   pub there : slice_get lines head ≡ Some line
-  pub begins : BeginsRow line gateway count
+  pub begins : IsRowLine line gateway count
   pub first : SpellCalls gateway (take (length calls) (drop (head + 1) lines)) calls
   pub fewer : length calls < count
   pub counted : number ≡ head + length calls + 2

@@ -3,8 +3,8 @@
 ghost use Rattle.std.specs.Prelude.{◌≡◌, ◌≢◌, ◌==◌, ◌⊎◌, ℕ, Bool, Err, IfOk, MatchOption, map};
 ghost use Rattle.std.specs.List.{slice_split};
 ghost use Rattle.gw_script.specs.declared.command.Word.TheVariants as words;
-ghost use Rattle.gw_script.specs.Commands.{IsFailure, IsSpared, Says, Spells};
-ghost use Rattle.gw_script.specs.inner.Commands.{Reads};
+ghost use Rattle.gw_script.specs.Commands.{IsFailure, IsSpared, Says, SpellsCommand};
+ghost use Rattle.gw_script.specs.inner.Commands.{ReadsCommand};
 ghost use Rattle.sn_topic.specs.Topics.{IsName};
 
 use super::bytes::bytes;
@@ -66,12 +66,12 @@ pub enum Word {
 
 impl Word {
     ghost use Rattle.gw_script.specs.declared.command.Word.{Word};
-    ghost use Rattle.gw_script.specs.Commands.{text_of};
+    ghost use Rattle.gw_script.specs.Commands.{word_text};
 
     /// The word that is written so.
     pub fn of(text: &[u8]) -> Option<Word>
-        ensures { MatchOption result ((word : Word) → text_of word ≢ text.now)
-            (λ word. text_of word ≡ text.now) }
+        ensures { MatchOption result ((word : Word) → word_text word ≢ text.now)
+            (λ word. word_text word ≡ text.now) }
     {
         if text == b"gateway".as_slice() {
             Some(Word::Gateway)
@@ -111,9 +111,9 @@ pub fn cut(alloc: Global, text: &[u8], at: u8) -> Result<Vec<&[u8]>, AllocError>
 
 /// The command that a line spells.
 pub fn read_command(alloc: Global, line: &[u8]) -> Result<Command, LineFault>
-    ensures reads { Reads (Spells line.now) result }
+    ensures reads { ReadsCommand (SpellsCommand line.now) result }
     // What a line spells is read, unless memory runs out.
-    ensures only { (command : Command) → Spells line.now command → (result ≡ Ok command)
+    ensures only { (command : Command) → SpellsCommand line.now command → (result ≡ Ok command)
         ⊎ (result ≡ Err LineFault.Memory) }
 {
     let fields = cut(alloc, line, b' ')?;
@@ -128,7 +128,7 @@ pub fn read_command(alloc: Global, line: &[u8]) -> Result<Command, LineFault>
 
 /// The command that fields say after a word.
 fn say(alloc: Global, word: Word, fields: &[&[u8]]) -> Result<Command, LineFault>
-    ensures { Reads (Says word (map (λ field. field.now) fields.now)) result }
+    ensures { ReadsCommand (Says word (map (λ field. field.now) fields.now)) result }
 {
     match word {
         Word::Gateway => gateway(fields),
@@ -147,7 +147,7 @@ fn say(alloc: Global, word: Word, fields: &[&[u8]]) -> Result<Command, LineFault
 
 /// What the fields after `gateway` say.
 fn gateway(fields: &[&[u8]]) -> Result<Command, LineFault>
-    ensures { Reads (Says words.Gateway (map (λ field. field.now) fields.now)) result }
+    ensures { ReadsCommand (Says words.Gateway (map (λ field. field.now) fields.now)) result }
 {
     let [number] = fields else {
         return Err(LineFault::NotACommand);
@@ -172,7 +172,7 @@ fn topic_name(alloc: Global, octets: &[u8]) -> Result<TopicName, LineFault>
 
 /// What the fields after `predefine` say.
 fn predefine(alloc: Global, fields: &[&[u8]]) -> Result<Command, LineFault>
-    ensures { Reads (Says words.Predefine (map (λ field. field.now) fields.now)) result }
+    ensures { ReadsCommand (Says words.Predefine (map (λ field. field.now) fields.now)) result }
 {
     let [number, id, name] = fields else {
         return Err(LineFault::NotACommand);
@@ -191,7 +191,7 @@ fn predefine(alloc: Global, fields: &[&[u8]]) -> Result<Command, LineFault>
 
 /// What the fields after `lifetime` say.
 fn lifetime(fields: &[&[u8]]) -> Result<Command, LineFault>
-    ensures { Reads (Says words.Lifetime (map (λ field. field.now) fields.now)) result }
+    ensures { ReadsCommand (Says words.Lifetime (map (λ field. field.now) fields.now)) result }
 {
     let [number, seconds] = fields else {
         return Err(LineFault::NotACommand);
@@ -204,7 +204,7 @@ fn lifetime(fields: &[&[u8]]) -> Result<Command, LineFault>
 
 /// What the fields after `frame` say.
 fn frame(alloc: Global, fields: &[&[u8]]) -> Result<Command, LineFault>
-    ensures { Reads (Says words.Frame (map (λ field. field.now) fields.now)) result }
+    ensures { ReadsCommand (Says words.Frame (map (λ field. field.now) fields.now)) result }
 {
     let [gateway, address, moment, octets] = fields else {
         return Err(LineFault::NotACommand);
@@ -232,7 +232,7 @@ fn frame(alloc: Global, fields: &[&[u8]]) -> Result<Command, LineFault>
 
 /// What the fields after `tick` say.
 fn tick(fields: &[&[u8]]) -> Result<Command, LineFault>
-    ensures { Reads (Says words.Tick (map (λ field. field.now) fields.now)) result }
+    ensures { ReadsCommand (Says words.Tick (map (λ field. field.now) fields.now)) result }
 {
     let [gateway, moment] = fields else {
         return Err(LineFault::NotACommand);
@@ -245,7 +245,7 @@ fn tick(fields: &[&[u8]]) -> Result<Command, LineFault>
 
 /// What the fields after `take` say.
 fn take(fields: &[&[u8]]) -> Result<Command, LineFault>
-    ensures { Reads (Says words.Take (map (λ field. field.now) fields.now)) result }
+    ensures { ReadsCommand (Says words.Take (map (λ field. field.now) fields.now)) result }
 {
     let [gateway, delta] = fields else {
         return Err(LineFault::NotACommand);
@@ -258,7 +258,7 @@ fn take(fields: &[&[u8]]) -> Result<Command, LineFault>
 
 /// What the fields after `answer` say.
 fn answer(fields: &[&[u8]]) -> Result<Command, LineFault>
-    ensures { Reads (Says words.Answer (map (λ field. field.now) fields.now)) result }
+    ensures { ReadsCommand (Says words.Answer (map (λ field. field.now) fields.now)) result }
 {
     let [gateway, peer] = fields else {
         return Err(LineFault::NotACommand);
@@ -285,7 +285,7 @@ fn failure(text: &[u8]) -> Option<(u64, bool)>
 
 /// What the fields after `fail` say.
 fn fail(fields: &[&[u8]]) -> Result<Command, LineFault>
-    ensures { Reads (Says words.Fail (map (λ field. field.now) fields.now)) result }
+    ensures { ReadsCommand (Says words.Fail (map (λ field. field.now) fields.now)) result }
 {
     let [gateway, how] = fields else {
         return Err(LineFault::NotACommand);
@@ -305,7 +305,7 @@ fn fail(fields: &[&[u8]]) -> Result<Command, LineFault>
 
 /// What the fields after `compact` say.
 fn compact(fields: &[&[u8]]) -> Result<Command, LineFault>
-    ensures { Reads (Says words.Compact (map (λ field. field.now) fields.now)) result }
+    ensures { ReadsCommand (Says words.Compact (map (λ field. field.now) fields.now)) result }
 {
     let [gateway] = fields else {
         return Err(LineFault::NotACommand);
@@ -329,7 +329,7 @@ fn spared(text: &[u8]) -> Option<u64>
 
 /// What the fields after `restart` say.
 fn restart(fields: &[&[u8]]) -> Result<Command, LineFault>
-    ensures { Reads (Says words.Restart (map (λ field. field.now) fields.now)) result }
+    ensures { ReadsCommand (Says words.Restart (map (λ field. field.now) fields.now)) result }
 {
     let [gateway, bytes] = fields else {
         return Err(LineFault::NotACommand);
@@ -345,7 +345,7 @@ fn restart(fields: &[&[u8]]) -> Result<Command, LineFault>
 
 /// What the fields after `show` say.
 fn show(fields: &[&[u8]]) -> Result<Command, LineFault>
-    ensures { Reads (Says words.Show (map (λ field. field.now) fields.now)) result }
+    ensures { ReadsCommand (Says words.Show (map (λ field. field.now) fields.now)) result }
 {
     let [gateway] = fields else {
         return Err(LineFault::NotACommand);

@@ -3,8 +3,8 @@
 ghost use Rattle.std.specs.Prelude.{◌≡◌, ◌≢◌, ◌+◌, ◌<◌, ◌≤◌, ◌^◌, ◌↔◌, ℕ, true, Err, IfOk, MatchOption, codes, length, map, take, vec_len};
 ghost use Rattle.octets.specs.Decimal.{IsNumber};
 ghost use Rattle.gw_world.specs.declared.event.Call.{Call};
-ghost use Rattle.gw_world.specs.Field.{by_itself, gateway_of};
-ghost use Rattle.gw_script.specs.Rows.{SaysRow, BeginsRow, SpellsCall, SpellCalls};
+ghost use Rattle.gw_world.specs.Field.{by_itself, gateway_of_event};
+ghost use Rattle.gw_script.specs.Rows.{SaysRow, IsRowLine, SpellsCall, SpellCalls};
 ghost use Rattle.gw_script.specs.inner.Rows.{IsNoCall, IsShort};
 
 use super::command::{Command, cut, read_command};
@@ -54,8 +54,8 @@ fn row_said(fields: &[&[u8]]) -> Option<(u8, u64)>
 /// The gateway that calls come to, and how many, if the line says that calls come together.
 pub fn row_of(alloc: Global, line: &[u8]) -> Result<Option<(u8, u64)>, NoMemory>
     ensures { IfOk result (λ read. MatchOption read
-        ((gateway count : ℕ) → ¬ (BeginsRow line.now gateway count))
-        (λ row. BeginsRow line.now row.0 row.1)) }
+        ((gateway count : ℕ) → ¬ (IsRowLine line.now gateway count))
+        (λ row. IsRowLine line.now row.0 row.1)) }
 {
     let fields = cut(alloc, line, b' ')?;
     Ok(row_said(fields.as_slice()))
@@ -76,8 +76,8 @@ fn call_of(event: Event, gateway: u8) -> Option<Call>
 
 /// The event as a call of several, if it is one.
 fn as_call(event: Event) -> Option<Call>
-    ensures { MatchOption result ((call : Call) → event ≢ by_itself (gateway_of event) call)
-        (λ call. event ≡ by_itself (gateway_of event) call) }
+    ensures { MatchOption result ((call : Call) → event ≢ by_itself (gateway_of_event event) call)
+        (λ call. event ≡ by_itself (gateway_of_event event) call) }
 {
     match event {
         Event::Frame {
@@ -97,8 +97,8 @@ fn as_call(event: Event) -> Option<Call>
 /// The event as a call of several that holds no octets, if it is one.
 fn short_call(event: &Event) -> Option<Call>
     ensures { MatchOption result ((call : Call) → IsShort call
-        → event.now ≢ by_itself (gateway_of event.now) call)
-        (λ call. event.now ≡ by_itself (gateway_of event.now) call) }
+        → event.now ≢ by_itself (gateway_of_event event.now) call)
+        (λ call. event.now ≡ by_itself (gateway_of_event event.now) call) }
 {
     match event {
         Event::Tick { now, .. } => Some(Call::Tick { now: *now }),

@@ -27,8 +27,8 @@ impl Script {
     ghost use Rattle.std.specs.Prelude.{◌≡◌, ◌+◌, ◌<◌, ℕ, [], Err, IfOk, OnOk, OnErr, get_or, length, map};
     ghost use Rattle.gw_script.specs.declared.script.Script.{Script};
     ghost use Rattle.gw_script.specs.declared.command.Command.TheVariants.{Gateway, Lifetime, Predefine};
-    ghost use Rattle.gw_script.specs.Rows.{BeginsRow};
-    ghost use Rattle.gw_script.specs.Scripts.{empty_script, with_row, Adds, Extends};
+    ghost use Rattle.gw_script.specs.Rows.{IsRowLine};
+    ghost use Rattle.gw_script.specs.Scripts.{empty_script, with_row, AddsCommand, Extends};
     ghost use Rattle.gw_script.specs.inner.Rows.{RowRead, LineRead, NoLineAt, NoCallBehind};
     ghost use Rattle.gw_script.specs.Scripts as spec;
 
@@ -58,9 +58,9 @@ impl Script {
 
     /// Adds a command. On an error the script is as it was.
     pub fn add(&mut self, alloc: Global, command: Command) -> Result<(), LineFault>
-        ensures ok { OnOk result (Adds self.old command self.new) }
+        ensures ok { OnOk result (AddsCommand self.old command self.new) }
         ensures refused { result ≡ Err LineFault.NotACommand → (after : Script)
-            → Adds self.old command after → ⊥ }
+            → AddsCommand self.old command after → ⊥ }
         ensures err { OnErr result (self.new ≡ self.old) }
     {
         match command {
@@ -78,9 +78,9 @@ impl Script {
 
     /// Adds a gateway.
     fn add_gateway(&mut self, alloc: Global, number: u8) -> Result<(), LineFault>
-        ensures ok { OnOk result (Adds self.old (Gateway number) self.new) }
+        ensures ok { OnOk result (AddsCommand self.old (Gateway number) self.new) }
         ensures refused { result ≡ Err LineFault.NotACommand → (after : Script)
-            → Adds self.old (Gateway number) after → ⊥ }
+            → AddsCommand self.old (Gateway number) after → ⊥ }
         ensures err { OnErr result (self.new ≡ self.old) }
     {
         if number == 0 || !self.events.is_empty() || self.has_gateway(number) {
@@ -105,9 +105,9 @@ impl Script {
         id: u16,
         name: TopicName,
     ) -> Result<(), LineFault>
-        ensures ok { OnOk result (Adds self.old (Predefine number id name) self.new) }
+        ensures ok { OnOk result (AddsCommand self.old (Predefine number id name) self.new) }
         ensures refused { result ≡ Err LineFault.NotACommand → (after : Script)
-            → Adds self.old (Predefine number id name) after → ⊥ }
+            → AddsCommand self.old (Predefine number id name) after → ⊥ }
         ensures err { OnErr result (self.new ≡ self.old) }
     {
         if !self.events.is_empty() {
@@ -123,9 +123,9 @@ impl Script {
 
     /// Gives a gateway a lifetime, in seconds.
     fn add_lifetime(&mut self, alloc: Global, number: u8, seconds: u32) -> Result<(), LineFault>
-        ensures ok { OnOk result (Adds self.old (Lifetime number seconds) self.new) }
+        ensures ok { OnOk result (AddsCommand self.old (Lifetime number seconds) self.new) }
         ensures refused { result ≡ Err LineFault.NotACommand → (after : Script)
-            → Adds self.old (Lifetime number seconds) after → ⊥ }
+            → AddsCommand self.old (Lifetime number seconds) after → ⊥ }
         ensures err { OnErr result (self.new ≡ self.old) }
     {
         if !self.events.is_empty() {
@@ -159,7 +159,7 @@ impl Script {
             (map (λ line. line.now) lines.now) at self.new next) }
         ensures bad { (k : ℕ) → result ≡ Err (ScriptFault.Line k) → (k ≡ at + 1)
             × ((gateway count : ℕ)
-            → ¬ (BeginsRow (get_or (map (λ line. line.now) lines.now) at []) gateway count)) }
+            → ¬ (IsRowLine (get_or (map (λ line. line.now) lines.now) at []) gateway count)) }
         ensures call { (k : ℕ) → result ≡ Err (ScriptFault.Call k)
             → NoCallBehind (map (λ line. line.now) lines.now) at k }
     {

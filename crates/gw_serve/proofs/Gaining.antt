@@ -24,7 +24,7 @@ use Rattle.gw_serve.specs.Count.{weigh}
 use Rattle.gw_serve.specs.inner.Queue.{hand}
 use Rattle.gw_serve.specs.Serving.{is_frame, Gains, HaveSeen}
 use Rattle.gw_serve.specs.inner.Handling.{IsHandled}
-use Rattle.gw_serve.specs.inner.Rows.{HasTaken, numbers_from}
+use Rattle.gw_serve.specs.inner.Rows.{TakesNumbers, row_numbers_from}
 use Rattle.gw_serve.specs.inner.Work.{IsWorked, IsWorking}
 use Rattle.gw_serve.proofs.Balance.{weigh-append}
 use Rattle.gw_shift.proofs.Gained.{with_none, with_both}
@@ -47,14 +47,14 @@ frames_held number (s ∷ steps) (a ∷ answers) are =
 
 -- their numbers
 numbers_held : (number : ℕ) (steps : List Step) (answers : List (Result Out Refusal)) → length answers ≤ length steps
-    → map (λ (m : Held). m.number) (held_from number steps answers) ≡ numbers_from number (length answers)
+    → map (λ (m : Held). m.number) (held_from number steps answers) ≡ row_numbers_from number (length answers)
 numbers_held number steps [] few = refl
 numbers_held number [] (a ∷ answers) few = absurd (omega (arith, few))
 numbers_held number (s ∷ steps) (a ∷ answers) few = ap (λ (ns : List ℕ). number ∷ ns) (numbers_held (number + 1) steps answers (omega (arith, few)))
 
 -- what calls in a row add
 pub gains_row : (before : Holder) (steps : List Step) (answers : List (Result Out Refusal)) (n : ℕ) (after : Holder) → All (λ (step : Step). is_frame step ≡ true) steps
-    → MadeInRow before steps answers n after → Gains before (numbers_from n (length answers)) after
+    → MadeInRow before steps answers n after → Gains before (row_numbers_from n (length answers)) after
 gains_row before steps answers n after frames made =
     (held_from n steps answers, made.holds, numbers_held n steps answers made.few, frames_held n steps answers frames)
 
@@ -104,7 +104,7 @@ none_of None e = refl
 none_of (Some trouble) e = absurd (true≢false e)
 
 -- what a row of numbers does to a seat
-pub handled : (before : Holder) (v w : Hand) (t t' : List Taken) (l l' numbers : List ℕ) (pass after : Holder) → IsWorking before v t l pass → HasTaken v numbers w
+pub handled : (before : Holder) (v w : Hand) (t t' : List Taken) (l l' numbers : List ℕ) (pass after : Holder) → IsWorking before v t l pass → TakesNumbers v numbers w
     → IsHandled pass numbers t l None t' l' after → IsWorking before w t' l' after
 handled before v w t t' l l' numbers pass after was is row =
     let done = row.done refl in
@@ -131,7 +131,7 @@ handled before v w t t' l l' numbers pass after was is row =
     }
 
 -- a row of no numbers does nothing to it
-pub no_numbers : (before : Holder) (v w : Hand) (t t' : List Taken) (l l' numbers : List ℕ) (pass : Holder) → IsWorking before v t l pass → HasTaken v numbers w → numbers ≡ []
+pub no_numbers : (before : Holder) (v w : Hand) (t t' : List Taken) (l l' numbers : List ℕ) (pass : Holder) → IsWorking before v t l pass → TakesNumbers v numbers w → numbers ≡ []
     → t' ≡ t → l' ≡ l → IsWorking before w t' l' pass
 no_numbers before v w t t' l l' numbers pass was is none same alike =
     let still : w ≡ v =
@@ -159,7 +159,7 @@ module _ {Q M L A : Type 0} (c : Rows (Badge (Key Datagram)) (Doing Datagram Han
 
   -- datagrams were lost by a fault
   pub failed : (before : Holder) (v : Hand) (taken : List Taken) (left : List ℕ) (pass : Holder) (numbers : List ℕ) (seat : Seat) (cause : Trouble) → IsWorking before v taken left pass → IsSeatAt c seat.ticket
-      → HasTaken v numbers (view seat.ticket) → ((steps : List ℕ) × Gains pass steps seat.pass) × (cause ≡ troubles.Behind → 0 < seen_by seat.pass) → seat.fault ≡ Some cause → IsWorked c before seat
+      → TakesNumbers v numbers (view seat.ticket) → ((steps : List ℕ) × Gains pass steps seat.pass) × (cause ≡ troubles.Behind → 0 < seen_by seat.pass) → seat.fault ≡ Some cause → IsWorked c before seat
   failed before v taken left pass numbers seat cause was channel is gains fault =
       record {
         channel = channel;
@@ -171,7 +171,7 @@ module _ {Q M L A : Type 0} (c : Rows (Badge (Key Datagram)) (Doing Datagram Han
       }
 
   -- a row was handled, and the worker ends
-  pub ended : (before : Holder) (v : Hand) (taken : List Taken) (left : List ℕ) (pass : Holder) (numbers : List ℕ) (seat : Seat) → IsWorking before v taken left pass → IsSeatAt c seat.ticket → HasTaken v numbers (view seat.ticket)
+  pub ended : (before : Holder) (v : Hand) (taken : List Taken) (left : List ℕ) (pass : Holder) (numbers : List ℕ) (seat : Seat) → IsWorking before v taken left pass → IsSeatAt c seat.ticket → TakesNumbers v numbers (view seat.ticket)
       → IsHandled pass numbers taken left seat.fault seat.taken.items seat.left.items seat.pass → IsWorked c before seat
   ended before v taken left pass numbers seat was channel is h =
       record {

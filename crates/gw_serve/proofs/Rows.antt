@@ -16,7 +16,7 @@ use Rattle.gw_answer.specs.declared.refusal.Refusal.{Refusal}
 use Rattle.gw_shift.specs.Calling.{NoneMade, MadeInRow}
 use Rattle.gw_shift.specs.declared.fault.CallFault.TheVariants as faults
 use Rattle.gw_serve.specs.declared.row.End.TheVariants.{Failed}
-use Rattle.gw_serve.specs.inner.Rows.{IsCalled, IsEnd, numbers_from}
+use Rattle.gw_serve.specs.inner.Rows.{AreCalled, IsEnd, row_numbers_from}
 use Rattle.gw_serve.specs.Serving.{is_frame, Gains}
 use Rattle.gw_serve.proofs.Gaining.{gains_row, gains_more, only_memory, memory_is_not_behind}
 
@@ -35,7 +35,7 @@ both_maps f (c ∷ called) = ap (λ (ns : List ℕ). f c.taken ∷ ns) (both_map
 
 -- the first became calls, and the others are left; memory may have run out at the gateway
 pub row_rest : (before : Holder) (numbers : List ℕ) (called : List Called) (taken all : List Taken) (left rest : List ℕ) (trouble : Option Trouble) (after : Holder) → IfSome trouble (λ t. t ≡ troubles.Memory)
-    → IsCalled before numbers called after → all ≡ taken ++ map taken_of called → rest ≡ left ++ drop (length called) numbers → IsHandled before numbers taken left trouble all rest after
+    → AreCalled before numbers called after → all ≡ taken ++ map taken_of called → rest ≡ left ++ drop (length called) numbers → IsHandled before numbers taken left trouble all rest after
 row_rest before numbers called taken all left rest trouble after only made noted kept =
     let more : List Taken = map taken_of called in
     let steps : Gains before (map step_of more) after =
@@ -55,7 +55,7 @@ row_rest before numbers called taken all left rest trouble after only made noted
 
 -- all became calls
 pub row_all : (before : Holder) (numbers : List ℕ) (called : List Called) (taken all : List Taken) (left : List ℕ) (trouble : Option Trouble) (after : Holder) → IfSome trouble (λ t. t ≡ troubles.Memory)
-    → IsCalled before numbers called after → length called ≡ length numbers → all ≡ taken ++ map taken_of called → IsHandled before numbers taken left trouble all left after
+    → AreCalled before numbers called after → length called ≡ length numbers → all ≡ taken ++ map taken_of called → IsHandled before numbers taken left trouble all left after
 row_all before numbers called taken all left trouble after only made whole noted =
     let none : drop (length called) numbers ≡ [] = drop_all (length called) numbers (omega (arith, whole)) in
     row_rest before numbers called taken all left left trouble after only made noted
@@ -63,7 +63,7 @@ row_all before numbers called taken all left trouble after only made whole noted
 
 -- the worker must end
 pub row_failed : (before : Holder) (numbers : List ℕ) (called : List Called) (taken all : List Taken) (left rest : List ℕ) (trouble : Trouble) (after : Holder)
-    → IsCalled before numbers called after → (trouble ≡ troubles.Behind → 0 < seen_by after) → IsHandled before numbers taken left (Some trouble) all rest after
+    → AreCalled before numbers called after → (trouble ≡ troubles.Behind → 0 < seen_by after) → IsHandled before numbers taken left (Some trouble) all rest after
 row_failed before numbers called taken all left rest trouble after made behind = record {
   gains = (map (λ (c : Called). c.taken.step) called, made.gains);
   done = λ none. absurd (true≢false (ap is_some none));
@@ -96,13 +96,13 @@ slice_rest n xs = let short = length-drop n xs in take_all (length xs - n) (drop
 -- these became calls too
 pub called_on : (before pass after : Holder) (numbers : List ℕ) (steps : List Step) (answers : List (Result Out Refusal)) (number : ℕ) (old new : List Called) (n d : ℕ) → map (λ (c : Called). c.taken.datagram) old ≡ take (length old) numbers
     → Gains before (map (λ (c : Called). c.taken.step) old) pass → All (λ (step : Step). is_frame step ≡ true) steps → MadeInRow pass steps answers number after → n ≡ length answers → d ≡ length old → length new ≡ length old + n
-    → map (λ (c : Called). c.taken.datagram) new ≡ map (λ (c : Called). c.taken.datagram) old ++ take n (drop d numbers) → map (λ (c : Called). c.taken.step) new ≡ map (λ (c : Called). c.taken.step) old ++ numbers_from number n
+    → map (λ (c : Called). c.taken.datagram) new ≡ map (λ (c : Called). c.taken.datagram) old ++ take n (drop d numbers) → map (λ (c : Called). c.taken.step) new ≡ map (λ (c : Called). c.taken.step) old ++ row_numbers_from number n
     → (map (λ (c : Called). c.taken.datagram) new ≡ take (length new) numbers) × Gains before (map (λ (c : Called). c.taken.step) new) after
 called_on before pass after numbers steps answers number old new n d same gains frames made is at long datagrams stepped = (
   datagrams ∙ ap (λ (k : ℕ). map (λ (c : Called). c.taken.datagram) old ++ take n (drop k numbers)) at ∙ ap (λ (ns : List ℕ). ns ++ take n (drop (length old) numbers)) same
       ∙ take-plus (length old) n numbers ∙ ap (λ (k : ℕ). take k numbers) (sym long),
-  subst (λ (ns : List ℕ). Gains before ns after) (sym (stepped ∙ ap (λ (k : ℕ). map (λ (c : Called). c.taken.step) old ++ numbers_from number k) is))
-      (gains_more before pass after (map (λ (c : Called). c.taken.step) old) (numbers_from number (length answers)) gains (gains_row pass steps answers number after frames made)),
+  subst (λ (ns : List ℕ). Gains before ns after) (sym (stepped ∙ ap (λ (k : ℕ). map (λ (c : Called). c.taken.step) old ++ row_numbers_from number k) is))
+      (gains_more before pass after (map (λ (c : Called). c.taken.step) old) (row_numbers_from number (length answers)) gains (gains_row pass steps answers number after frames made)),
 )
 
 -- the frames that are left

@@ -8,13 +8,7 @@ use Rattle.gw_shift.specs.Passes.{seen_by, with_calls}
 -- the call is a datagram's
 abbrev pub is_frame : Step → Bool
 is_frame (steps.Frame from bytes now) = true
-is_frame (steps.Take delta) = false
-is_frame (steps.Tick now) = false
-is_frame (steps.View client) = false
-is_frame steps.Digest = false
-is_frame (steps.Answer digest) = false
-is_frame steps.Compact = false
-is_frame steps.Reopen = false
+is_frame step = false
 
 -- each of the calls is a datagram's
 abbrev pub AreFrames : List Held → Type 0

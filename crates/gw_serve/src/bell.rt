@@ -88,12 +88,13 @@ impl Bell {
         }
     }
 
-    /// A datagram was put into the queue.
+    /// Counts a datagram that was put into the queue. The reader does, without a lock.
     pub(crate) fn note_put(&self) {
         self.put.fetch_add(1, Ordering::SeqCst);
     }
 
-    /// Whether who has the turn, and has taken so many datagrams, may take one more at once.
+    /// Whether the worker that has the turn, and has taken so many datagrams, may take one more at
+    /// once. It asks without a lock.
     pub(crate) fn may_take_more(&self, had: usize) -> bool {
         let put = self.put.load(Ordering::SeqCst);
         let taken = self.taken.load(Ordering::SeqCst);
@@ -106,7 +107,7 @@ impl Bell {
         put.saturating_sub(self.taken.load(Ordering::SeqCst))
     }
 
-    /// A datagram was taken from the queue.
+    /// Counts a datagram that was taken from the queue. The worker that has the turn does.
     pub(crate) fn note_taken(&self) {
         self.taken.fetch_add(1, Ordering::SeqCst);
     }
@@ -118,19 +119,21 @@ impl Bell {
     }
 
     /// Waits for the turn to take numbers and make their calls. It is over when what comes back is
-    /// unlocked.
+    /// unlocked. A worker waits for it, and holds no other lock then.
     pub(crate) fn take_turn<R: Wait>(&self, rt: &R) -> MutexGuard<'_, ()> {
         self.turn.lock(rt)
     }
 
-    /// Wakes one that waits, unless one looks. The lock is free by then: who wakes takes it first.
+    /// Wakes one worker that sleeps, unless one looks for the ring. The reader rings. The bell's
+    /// lock is free by then: who wakes takes it first.
     pub(crate) fn ring<R: Wait>(&self, rt: &R) {
         if !self.is_watched(rt) {
             self.rung.notify_one();
         }
     }
 
-    /// One ring more. Says whether a worker has looked for it, which is said of no further ring.
+    /// Counts one ring more, under the bell's lock. Says whether a worker has looked for it, which
+    /// is said of no further ring.
     fn is_watched<R: Wait>(&self, rt: &R) -> bool {
         let mut rings = self.rings.lock(rt);
         let is_watched = rings.watched;
@@ -139,7 +142,7 @@ impl Bell {
         is_watched
     }
 
-    /// Wakes all, for good.
+    /// Wakes all workers for good, under the bell's lock. The reader does, at its end.
     pub(crate) fn close<R: Wait>(&self, rt: &R) {
         let mut rings = self.rings.lock(rt);
         rings.closed = true;
@@ -148,7 +151,7 @@ impl Bell {
         self.rung.notify_all();
     }
 
-    /// What a worker remembers before it looks into the queue.
+    /// What a worker remembers before it looks into the queue, read under the bell's lock.
     pub(crate) fn heard<R: Wait>(&self, rt: &R) -> Heard {
         let rings = self.rings.lock(rt);
         Heard {
@@ -157,8 +160,8 @@ impl Bell {
         }
     }
 
-    /// Waits for a ring since then. A worker that has just worked looks for one before it sleeps,
-    /// unless another does.
+    /// Waits for a ring since then, in a worker's thread and without the turn. A worker that has
+    /// just worked looks for one before it sleeps, unless another does. Asleep it holds no lock.
     pub(crate) fn wait_past<R: Wait>(&self, rt: &R, heard: Heard, has_worked: bool) {
         let is_looking = has_worked && self.begin_look(rt, heard);
         if is_looking && self.has_rung_soon(heard) {
@@ -174,7 +177,8 @@ impl Bell {
         let _ = rings.closed;
     }
 
-    /// Says that a worker looks, where no other does and nothing has rung since then.
+    /// Says that a worker looks, if no other does and nothing has rung since then, under the bell's
+    /// lock.
     fn begin_look<R: Wait>(&self, rt: &R, heard: Heard) -> bool {
         let mut rings = self.rings.lock(rt);
         if rings.watched || self.has_rung(heard) {
@@ -184,7 +188,7 @@ impl Bell {
         true
     }
 
-    /// Whether it rings within a short while.
+    /// Whether it rings within a short while. It looks without the lock.
     fn has_rung_soon(&self, heard: Heard) -> bool {
         for _ in 0..LOOKS {
             if self.has_rung(heard) {

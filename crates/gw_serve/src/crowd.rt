@@ -4,7 +4,7 @@
 //! the first of them alone, write that one, and keep the others waiting for its sync: on a slow disk
 //! every second sync would write one message. So a worker that has the turn waits a moment first, if
 //! fewer wait than were answered just now and waited beside them. A moment is short beside what the
-//! calls of the last row took. On a fast disk it is over before anybody comes back.
+//! calls of the last row took.
 
 ghost use Rattle.std.specs.Prelude.{◌≡◌};
 ghost use Rattle.gw_serve.specs.inner.Room as spec;

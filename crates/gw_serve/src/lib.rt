@@ -17,8 +17,9 @@
 //! - `crowd`: how a worker waits a moment for those who were just answered.
 //!
 //! The definitions are in `specs/`: `Count` (lists of numbers, counted), `Queue` (the rule: what
-//! was sent was taken, or is in the queue), `Serving` (what passes gain), `Handling` (what becomes
-//! of a datagram), `Work` (a worker's place before and after its work).
+//! was sent was taken, or is in the queue), `Serving` (what passes gain), `Intakes` (what the
+//! reader took in), `Handling` (what becomes of a datagram), `Work` (a worker's place before and
+//! after its work).
 #![tactic(auto)]
 
 mod bell;

@@ -1,18 +1,20 @@
 //! The one reader: it numbers what comes and puts it into the queue. While that is full it reads
-//! nothing: what comes waits in the socket.
+//! nothing: what comes waits in the socket. It ends if the wire says that it is over.
 
 ghost use Rattle.std.specs.Prelude.{◌≡◌, ◌≢◌, ◌<◌, ◌≤◌, ◌+◌, [], Some, None, IfOk, IfErr, IfSome};
 ghost use Rattle.crossbeam_channel.specs.Claims.{view, IsSeatAt};
 ghost use Rattle.crossbeam_channel.specs.Ends.{sends_on};
 ghost use Rattle.gw_serve.specs.Count.{one_to};
+ghost use Rattle.gw_serve.specs.inner.Intakes.{came_by, datagram_in};
 ghost use Rattle.gw_serve.specs.inner.Queue.{hand};
 ghost use Rattle.gw_serve.specs.declared.worker.Cause.TheVariants as causes;
-ghost use Rattle.gw_wire.specs.Arrivals.{came_in};
 
 use crate::bell::Bell;
 use crate::queue::{Datagram, Sender, Sends, Ticket};
-use crate::worker::Cause;
-use gw_wire::Wire;
+use crate::worker::{Cause, Shared};
+use gw_wire::{Came, Gate, Post, Wire};
+use jr_disk::Disk;
+use rep_model::Replica;
 use std::alloc::Global;
 use std::sync::Wait;
 use std::sync::atomic::{AtomicBool, Ordering};
@@ -30,16 +32,25 @@ pub struct Reading {
     pub fault: Option<Cause>,
 }
 
-/// Reads for so many turns, or until it is to stop.
-pub fn read_all<R: Wait, W: Wire>(
-    rt: &R,
-    alloc: Global,
+/// What a receive brought.
+#[derive(Drop)]
+pub enum Intake {
+    /// A datagram, under a number.
+    Numbered(Datagram),
+    /// Nothing.
+    Nothing,
+    /// No more is to be received.
+    Over,
+}
+
+/// Reads for so many turns, or until it is to stop or no more is to be received. Runs in the
+/// reader's thread, and holds no lock while it waits.
+pub fn read_all<T: Wait, R: Replica, D: Disk + Drop, W: Wire, P: Post, G: Gate>(
+    shared: &Shared<'_, '_, T, R, D, P, G>,
     sender: &Sender,
     ticket: &mut Ticket,
     wire: &mut W,
     buffer: &mut [u8],
-    bell: &Bell,
-    stop: &AtomicBool,
     turns: u64,
 ) -> Reading
     requires channel { IsSeatAt (sends_on sender.now) ticket.old }
@@ -54,27 +65,30 @@ pub fn read_all<R: Wait, W: Wire>(
     ensures wire { result.fault ≡ Some causes.Wire → W.failures wire.old < W.failures wire.new }
     ensures behind { result.fault ≢ Some causes.Behind }
 {
+    let rt = shared.rt;
+    let bell = &shared.bell;
     let mut count: u64 = 0;
     let mut fault = None;
     for turn in 0..turns {
         let _ = turn;
-        if stop.load(Ordering::SeqCst) {
+        if shared.stop.load(Ordering::SeqCst) {
             break;
         }
-        await_room(wire, bell, count, stop);
-        match take_in(alloc, wire, buffer, count + 1) {
+        await_room(wire, bell, count, &shared.stop);
+        match take_in(shared.alloc, wire, buffer, count + 1) {
             Err(cause) => {
                 fault = Some(cause);
                 break;
             }
-            Ok(None) => {}
-            Ok(Some(datagram)) => {
-                if sender.try_send_as::<Sends, R>(rt, ticket, datagram).is_ok() {
+            Ok(Intake::Over) => break,
+            Ok(Intake::Nothing) => {}
+            Ok(Intake::Numbered(datagram)) => {
+                if sender.try_send_as::<Sends, T>(rt, ticket, datagram).is_ok() {
                     count += 1;
                     bell.note_put();
                     bell.ring(rt);
                 } else {
-                    wire.unheard();
+                    wire.note_dropped();
                 }
             }
         }
@@ -103,26 +117,27 @@ fn may_go_on(bell: &Bell, put: u64, stop: &AtomicBool) -> bool {
     bell.has_room(put) || stop.load(Ordering::SeqCst)
 }
 
-/// What comes, under a number.
+/// Receives what comes, under a number.
 fn take_in<W: Wire>(
     alloc: Global,
     wire: &mut W,
     buffer: &mut [u8],
     number: u64,
-) -> Result<Option<Datagram>, Cause>
-    ensures number { IfOk result (λ r. IfSome r (λ d. d.number ≡ number)) }
+) -> Result<Intake, Cause>
+    ensures number { IfOk result (λ r. IfSome (datagram_in r) (λ d. d.number ≡ number)) }
     ensures datagrams { IfOk result (λ r. (W.drops wire.new ≡ W.drops wire.old)
-        × (W.arrivals wire.new ≡ W.arrivals wire.old + came_in result)) }
+        × (W.arrivals wire.new ≡ W.arrivals wire.old + came_by r)) }
     ensures wire { IfErr result (λ c. c ≡ causes.Wire → W.failures wire.old < W.failures wire.new) }
     ensures more { W.failures wire.old ≤ W.failures wire.new }
     ensures behind { IfErr result (λ c. c ≢ causes.Behind) }
 {
     match wire.recv(buffer) {
         Err(_) => Err(Cause::Wire),
-        Ok(None) => Ok(None),
-        Ok(Some(arrival)) => match Vec::from_slice(alloc, &buffer[..arrival.size]) {
+        Ok(Came::Over) => Ok(Intake::Over),
+        Ok(Came::Nothing) => Ok(Intake::Nothing),
+        Ok(Came::Datagram(arrival)) => match Vec::from_slice(alloc, &buffer[..arrival.size]) {
             Err(_) => Err(Cause::Memory),
-            Ok(bytes) => Ok(Some(Datagram {
+            Ok(bytes) => Ok(Intake::Numbered(Datagram {
                 number,
                 from: arrival.from,
                 bytes,

@@ -9,7 +9,7 @@ ghost use Rattle.gw_shift.specs.Calls.{Holder};
 ghost use Rattle.gw_shift.specs.Calling.{NoneMade};
 ghost use Rattle.gw_serve.specs.Serving.{is_frame, Gains};
 ghost use Rattle.gw_serve.specs.inner.Queue.{hand};
-ghost use Rattle.gw_serve.specs.inner.Rows.{IsRow, IsEmptyRow, HasTaken, IsCalled, IsEnd, numbers_from};
+ghost use Rattle.gw_serve.specs.inner.Rows.{IsTakenRow, IsEmptyRow, TakesNumbers, AreCalled, IsEnd, row_numbers_from};
 
 use crate::queue::{CAPACITY, Datagram, Receiver, Takes, Ticket};
 use crate::worker::{Shared, Taken, Trouble};
@@ -69,9 +69,10 @@ impl Row {
     }
 }
 
-/// Takes what waits: one datagram, and more of them while the bell allows it.
+/// Takes what waits: one datagram, and more of them while the bell allows it. Runs in a worker's
+/// thread, with the turn.
 pub fn take_row<T: Wait, R: Replica, D: Disk + Drop, P: Post, G: Gate>(
-    shared: &Shared<'_, T, R, D, P, G>,
+    shared: &Shared<'_, '_, T, R, D, P, G>,
     receiver: &Receiver,
     ticket: &mut Ticket,
     row: &mut Row,
@@ -80,8 +81,8 @@ pub fn take_row<T: Wait, R: Replica, D: Disk + Drop, P: Post, G: Gate>(
     requires part { (view ticket.old).parts ≡ 1 }
     requires empty { IsEmptyRow row.old }
     ensures channel { IsSeatAt (receives_on receiver.now) ticket.new }
-    ensures taken { HasTaken (view ticket.old) row.new.numbers.items (view ticket.new) }
-    ensures row { OnOk result (IsRow row.new) }
+    ensures taken { TakesNumbers (view ticket.old) row.new.numbers.items (view ticket.new) }
+    ensures row { OnOk result (IsTakenRow row.new) }
 {
     let rt = shared.rt;
     for count in 0..CAPACITY {
@@ -125,15 +126,16 @@ fn step_of(alloc: Global, datagram: Datagram) -> Result<Arc<Step>, NoMemory>
     }
 }
 
-/// Makes the calls of a row, and of what the shift left of it, until all are made or the shift makes
-/// no more.
+/// Makes the calls of a row, and of what the shift left of it, until all are made or the shift
+/// makes no more. Runs in a worker's thread, with the turn; the shift's lock is held for each call
+/// of it.
 pub fn call_row<T: Wait, R: Replica, D: Disk + Drop, P: Post, G: Gate>(
-    shared: &Shared<'_, T, R, D, P, G>,
+    shared: &Shared<'_, '_, T, R, D, P, G>,
     pass: Pass,
     row: &mut Row,
 ) -> (Pass, End)
-    requires { IsRow row.old }
-    ensures called { IsCalled pass row.old.numbers.items row.new.called.items result.0 }
+    requires { IsTakenRow row.old }
+    ensures called { AreCalled pass row.old.numbers.items row.new.called.items result.0 }
     ensures end { IsEnd (length row.old.numbers.items) (length row.new.called.items) result.1
         result.0 }
     ensures numbers { row.new.numbers.items ≡ row.old.numbers.items }
@@ -178,10 +180,12 @@ fn note_called(called: &mut Vec<Called>, numbers: &[u64], first: u64, answers: V
     requires numbers { first + length answers.items < 2 ^ 64 }
     ensures many { vec_len called.new ≡ vec_len called.old + length answers.items }
     ensures room { vec_capacity called.new ≡ vec_capacity called.old }
-    ensures datagrams { map (λ c. c.taken.datagram) called.new.items ≡ map (λ c. c.taken.datagram) called.old.items
+    ensures datagrams { map (λ c. c.taken.datagram) called.new.items
+        ≡ map (λ c. c.taken.datagram) called.old.items
         ++ take (length answers.items) (drop (vec_len called.old) numbers.now) }
-    ensures steps { map (λ c. c.taken.step) called.new.items ≡ map (λ c. c.taken.step) called.old.items
-        ++ numbers_from first (length answers.items) }
+    ensures steps { map (λ c. c.taken.step) called.new.items
+        ≡ map (λ c. c.taken.step) called.old.items
+        ++ row_numbers_from first (length answers.items) }
 {
     let mut step = first;
     for answer in answers {
@@ -194,8 +198,9 @@ fn note_called(called: &mut Vec<Called>, numbers: &[u64], first: u64, answers: V
     }
 }
 
-/// Sends the replies of a row's calls, datagram by datagram in their order, and notes them as taken.
-/// Says whether memory ran out at the gateway.
+/// Sends the replies of a row's calls, datagram by datagram in their order, and notes them as
+/// taken. Says whether memory ran out at the gateway. Runs in a worker's thread, without a lock or
+/// the turn.
 pub fn tell_all<P: Post, G: Gate>(
     post: &P,
     gate: &G,

@@ -3,7 +3,7 @@
 ghost use Rattle.std.specs.Prelude.{◌≡◌, ◌≢◌, ◌⊎◌, ◌≤◌, ◌<◌, ◌+◌, ◌-◌, ◌^◌, ◌++◌, ℕ, Some, None, List, [], ◌∷◌, length, map, vec_len, vec_capacity, IfOk, IfErr, IfSome, All};
 ghost use Rattle.crossbeam_channel.specs.Claims.{view, IsSeatAt};
 ghost use Rattle.crossbeam_channel.specs.Ends.{sends_on, receives_on};
-ghost use Rattle.gw_serve.specs.Count.{weigh, times, one_to};
+ghost use Rattle.gw_serve.specs.Count.{weigh, times_in, one_to};
 ghost use Rattle.gw_serve.specs.inner.Queue.{hand, whole};
 ghost use Rattle.gw_serve.specs.Serving.{EachGains, HaveSeen};
 ghost use Rattle.gw_serve.specs.inner.Work.{IsFreshSlot, IsDone, IsWorked, IsWorkedSlot, WorkedFrom, DoneFrom, IsGathered, pass_of};
@@ -55,13 +55,13 @@ pub struct ServeFault<'a, R: Replica, D: Disk> {
     pub cause: Cause,
 }
 
-/// Serves datagrams until the shift has had all its calls, or for so many turns of the reader and
-/// then until the queue is empty.
+/// Serves datagrams until the shift has had all its calls, or until the wire is over, or for so
+/// many turns of the reader, and then until the queue is empty. None of these ends is a fault.
 ///
-/// One thread reads; there is a worker for each pass. Each datagram that finds room in the queue
-/// gets the next number, from 1 on; one that finds the queue full is dropped without a number.
-/// Replies are sent after the lock is given back, also those of a gateway whose disk has just
-/// failed.
+/// Runs in the thread that calls it, which reads, and makes a worker's thread for each pass. Each
+/// datagram that finds room in the queue gets the next number, from 1 on; one that finds the queue
+/// full is dropped without a number. Replies are sent after the shift's lock and the turn are given
+/// back, also those of a gateway whose disk has just failed.
 ///
 /// Each number is handed back once, in `taken` or in `left`. There are as many numbers as datagrams
 /// came over the wire, less those that it was told were dropped. The passes hold what they held and
@@ -91,8 +91,8 @@ where
     ensures datagrams { IfOk result (λ s. (n : ℕ) × (lost : ℕ)
         × (W.arrivals wire.new ≡ W.arrivals wire.old + n + lost)
         × (W.drops wire.new ≡ W.drops wire.old + lost)
-        × ((x : ℕ) → times x (map (λ t. t.datagram) s.taken.items ++ s.left.items)
-        ≡ times x (one_to n))) }
+        × ((x : ℕ) → times_in x (map (λ t. t.datagram) s.taken.items ++ s.left.items)
+        ≡ times_in x (one_to n))) }
     ensures passes { IfOk result (λ s. EachGains passes.items (map (λ t. t.step) s.taken.items)
         s.passes.items) }
     ensures wire { IfErr result (λ f. f.cause ≡ causes.Wire
@@ -108,9 +108,8 @@ where
             cause: Cause::Memory,
         });
     };
-    let Ok((sender, receiver, mut root)) = bounded_with::<Datagram, Hand, Fair, Global>(
-        alloc, CAPACITY,
-    ) else {
+    let Ok((sender, receiver, root)) = bounded_with::<Datagram, Hand, Fair, Global>(alloc, CAPACITY)
+    else {
         drop(room);
         return Err(ServeFault {
             shift,
@@ -118,24 +117,42 @@ where
             cause: Cause::Memory,
         });
     };
-    serve_in(
-        rt, alloc, shift, passes, room, &sender, &receiver, &mut root, wire, post, gate, turns,
-    )
+    let channel = Channel {
+        sender,
+        receiver,
+        root,
+    };
+    let shared = Shared {
+        rt,
+        alloc,
+        shift,
+        bell: Bell::new(passes.len() as u64),
+        crowd: Crowd::new(),
+        stop: AtomicBool::new(false),
+        post,
+        gate,
+    };
+    let served = serve_in(&shared, passes, room, channel, wire, turns);
+    drop(shared);
+    served
 }
 
-/// The same, with room for all that must not be lost and with a queue in which nothing was.
+/// The queue, with the right to send and to take whatever there is.
+#[derive(Drop)]
+struct Channel {
+    sender: Sender,
+    receiver: Receiver,
+    root: Ticket,
+}
+
+/// Serves with what all workers share, with room for all that must not be lost, and with a queue in
+/// which nothing was.
 fn serve_in<'a, T, R, D, W, P, G>(
-    rt: &T,
-    alloc: Global,
-    shift: &'a Shift<R, D>,
+    shared: &Shared<'a, '_, T, R, D, P, G>,
     passes: Vec<Pass>,
     room: Room,
-    sender: &Sender,
-    receiver: &Receiver,
-    root: &mut Ticket,
+    channel: Channel,
     wire: &mut W,
-    post: &P,
-    gate: &G,
     turns: u64,
 ) -> Result<Served<'a, R, D>, ServeFault<'a, R, D>>
 where
@@ -149,13 +166,14 @@ where
     requires some { 0 < vec_len passes }
     requires slots { (room.slots.items ≡ []) × (vec_len passes ≤ vec_capacity room.slots) }
     requires back { (room.back.items ≡ []) × (vec_len passes ≤ vec_capacity room.back) }
-    requires channel { receives_on receiver.now ≡ sends_on sender.now }
-    requires root { IsSeatAt (sends_on sender.now) root.old × (view root.old ≡ hand whole [] []) }
+    requires channel { receives_on channel.receiver ≡ sends_on channel.sender }
+    requires root { IsSeatAt (sends_on channel.sender) channel.root
+        × (view channel.root ≡ hand whole [] []) }
     ensures datagrams { IfOk result (λ s. (n : ℕ) × (lost : ℕ)
         × (W.arrivals wire.new ≡ W.arrivals wire.old + n + lost)
         × (W.drops wire.new ≡ W.drops wire.old + lost)
-        × ((x : ℕ) → times x (map (λ t. t.datagram) s.taken.items ++ s.left.items)
-        ≡ times x (one_to n))) }
+        × ((x : ℕ) → times_in x (map (λ t. t.datagram) s.taken.items ++ s.left.items)
+        ≡ times_in x (one_to n))) }
     ensures passes { IfOk result (λ s. EachGains passes.items (map (λ t. t.step) s.taken.items)
         s.passes.items) }
     ensures wire { IfErr result (λ f. f.cause ≡ causes.Wire
@@ -169,32 +187,26 @@ where
         back,
         mut buffer,
     } = room;
-    let workers = passes.len() as u64;
-    let mut slots = seated(alloc, sender, root, passes, slots);
-    let shared = Shared {
-        rt,
-        alloc,
-        shift,
-        bell: Bell::new(workers),
-        crowd: Crowd::new(),
-        stop: AtomicBool::new(false),
-        post,
-        gate,
-    };
-    let reading = read_and_work(
-        &shared,
+    let Channel {
         sender,
         receiver,
+        mut root,
+    } = channel;
+    let mut slots = seated(shared.alloc, &sender, &mut root, passes, slots);
+    let reading = read_and_work(
+        shared,
+        &sender,
+        &receiver,
         turns,
         slots.as_mut_slice(),
-        root,
+        &mut root,
         wire,
         buffer.as_mut_slice(),
     );
-    drop(shared);
     drop(buffer);
-    let mut gathered = gather(alloc, sender, root, slots, back);
-    let rest = drain(rt, receiver, root, &mut gathered.left);
+    let mut gathered = gather(shared.alloc, &sender, &mut root, slots, back);
+    let rest = drain(shared.rt, &receiver, &mut root, &mut gathered.left);
+    let shift = shared.shift;
     match first_cause(reading.fault, first_trouble(gathered.fault, rest)) {
         Some(cause) => {
             let Gathered {
@@ -220,8 +232,7 @@ where
     }
 }
 
-/// The cause of the workers, or else that of the reader, which is the ordinary end of a shift as
-/// well.
+/// The cause of the workers, or else that of the reader.
 fn first_cause(reader: Option<Cause>, worker: Option<Trouble>) -> Option<Cause>
     ensures none { result ≡ None → (reader ≡ None) × (worker ≡ None) }
     ensures wire { result ≡ Some causes.Wire → reader ≡ Some causes.Wire }
@@ -283,9 +294,9 @@ fn seated(
     slots
 }
 
-/// The reader in this thread, and the workers in others.
+/// Reads in this thread, and works in others.
 fn read_and_work<T, R, D, W, P, G>(
-    shared: &Shared<'_, T, R, D, P, G>,
+    shared: &Shared<'_, '_, T, R, D, P, G>,
     sender: &Sender,
     receiver: &Receiver,
     turns: u64,
@@ -315,10 +326,6 @@ where
     ensures wire { result.fault ≡ Some causes.Wire → W.failures wire.old < W.failures wire.new }
     ensures behind { result.fault ≢ Some causes.Behind }
 {
-    let rt = shared.rt;
-    let alloc = shared.alloc;
-    let bell = &shared.bell;
-    let stop = &shared.stop;
     let mut working = ||
         requires { All (IsFreshSlot (receives_on receiver.now)) slots.now }
         ensures { WorkedFrom (receives_on receiver.entry.now) slots.entry.now slots.exit.now }
@@ -334,14 +341,14 @@ where
             → (W.drops wire.entry.now ≤ W.drops wire.exit.now)
             × (W.arrivals wire.entry.now + result.count + W.drops wire.exit.now
             ≡ W.arrivals wire.exit.now + W.drops wire.entry.now)) }
-    { read_all(rt, alloc, sender, root, wire, buffer, bell, stop, turns) };
-    let ((), read) = thread::join_mut(rt, &mut working, &mut reading);
+    { read_all(shared, sender, root, wire, buffer, turns) };
+    let ((), read) = thread::join_mut(shared.rt, &mut working, &mut reading);
     read
 }
 
-/// A worker at each place.
+/// Works at each place, in a thread of its own.
 fn work_all<T, R, D, P, G>(
-    shared: &Shared<'_, T, R, D, P, G>,
+    shared: &Shared<'_, '_, T, R, D, P, G>,
     receiver: &Receiver,
     slots: &mut [Option<Seat>],
 )
@@ -365,9 +372,9 @@ where
     }
 }
 
-/// The work at one place.
+/// Works at one place. Runs in a worker's thread.
 fn work_at<T: Wait + Clock, R: Replica, D: Disk + Drop, P: Post, G: Gate>(
-    shared: &Shared<'_, T, R, D, P, G>,
+    shared: &Shared<'_, '_, T, R, D, P, G>,
     receiver: &Receiver,
     slot: &mut Option<Seat>,
 )

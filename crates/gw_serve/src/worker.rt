@@ -5,7 +5,7 @@ ghost use Rattle.crossbeam_channel.specs.Ends.{receives_on};
 ghost use Rattle.gw_serve.specs.declared.queue.TheConstants.{CAPACITY};
 ghost use Rattle.gw_serve.specs.declared.worker.Trouble.TheVariants as troubles;
 ghost use Rattle.gw_serve.specs.inner.Handling.{IsHandled};
-ghost use Rattle.gw_serve.specs.inner.Rows.{IsRow, IsEmptyRow};
+ghost use Rattle.gw_serve.specs.inner.Rows.{IsTakenRow, IsEmptyRow};
 ghost use Rattle.gw_serve.specs.inner.Work.{IsFresh, IsWorked};
 
 use crate::bell::Bell;
@@ -87,16 +87,16 @@ impl Seat {
     }
 }
 
-/// What all workers share.
+/// What the reader and all workers share while serving lasts. The shift is lent for longer.
 #[derive(Drop)]
-pub struct Shared<'a, T: Wait, R: Replica, D: Disk, P: Post, G: Gate> {
+pub struct Shared<'s, 'a, T: Wait, R: Replica, D: Disk, P: Post, G: Gate> {
     /// The waiting of the threads.
     pub rt: &'a T,
     /// The memory.
     pub alloc: Global,
     /// The shift that the calls are of.
-    pub shift: &'a Shift<R, D>,
-    /// By which the reader wakes them.
+    pub shift: &'s Shift<R, D>,
+    /// By which the reader wakes workers.
     pub bell: Bell,
     /// What the last row says of the next one.
     pub crowd: Crowd,
@@ -108,9 +108,10 @@ pub struct Shared<'a, T: Wait, R: Replica, D: Disk, P: Post, G: Gate> {
     pub gate: &'a G,
 }
 
-/// Works until the queue is closed and empty, and has the reader stop where it failed.
+/// Works until the queue is closed and empty. If it failed, the reader is to stop. Runs in a
+/// worker's thread.
 pub fn work<T: Wait + Clock, R: Replica, D: Disk + Drop, P: Post, G: Gate>(
-    shared: &Shared<'_, T, R, D, P, G>,
+    shared: &Shared<'_, '_, T, R, D, P, G>,
     receiver: &Receiver,
     seat: Seat,
 ) -> Seat
@@ -124,10 +125,12 @@ pub fn work<T: Wait + Clock, R: Replica, D: Disk + Drop, P: Post, G: Gate>(
     seat
 }
 
-/// Takes numbers until the queue is closed and empty. Room for all that may be taken at once is made
-/// before, so each that was taken is told of, unless the worker must end with a fault.
+/// Takes numbers until the queue is closed and empty. Room for all that may be taken at once is
+/// made before, so each that was taken is told of, unless the worker must end with a fault. Runs in
+/// a worker's thread. It takes the turn to take numbers and make their calls, and waits for the
+/// bell without it.
 fn take_all<T: Wait + Clock, R: Replica, D: Disk + Drop, P: Post, G: Gate>(
-    shared: &Shared<'_, T, R, D, P, G>,
+    shared: &Shared<'_, '_, T, R, D, P, G>,
     receiver: &Receiver,
     seat: Seat,
 ) -> Seat
@@ -220,17 +223,18 @@ fn room_for(alloc: Global, taken: &mut Vec<Taken>, left: &mut Vec<u64>) -> Optio
     }
 }
 
-/// Makes the calls of a row, which ends the worker's turn, and sends their replies after the lock.
-/// What the shift does not make is left, and the reader is to stop.
+/// Makes the calls of a row, with the turn and under the shift's lock, and then sends their
+/// replies, with neither. What the shift does not make is left, and the reader is to stop. Runs in
+/// a worker's thread.
 fn handle<T: Wait + Clock, R: Replica, D: Disk + Drop, P: Post, G: Gate>(
-    shared: &Shared<'_, T, R, D, P, G>,
+    shared: &Shared<'_, '_, T, R, D, P, G>,
     pass: Pass,
     mut row: Row,
     turn: MutexGuard<'_, ()>,
     taken: &mut Vec<Taken>,
     left: &mut Vec<u64>,
 ) -> (Pass, Option<Trouble>)
-    requires row { IsRow row }
+    requires row { IsTakenRow row }
     requires room { (vec_len taken.old + CAPACITY ≤ vec_capacity taken.old)
         × (vec_len left.old + CAPACITY ≤ vec_capacity left.old) }
     ensures { IsHandled pass row.numbers.items taken.old.items left.old.items result.1

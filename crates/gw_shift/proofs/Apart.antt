@@ -3,7 +3,7 @@ use Rattle.std.proofs.Common.{◌≡◌, ◌≢◌, ◌-◌, ◌==◌, ℕ, fals
 use Rattle.std.proofs.lemmas.Bool.{ne_eqb, or_from}
 use Rattle.gw_shift.specs.Calls.{Call, Held, Holder}
 use Rattle.gw_shift.specs.Closing.{StandsIn, has_number, is_held, AreOwn, AreKnown}
-use Rattle.gw_shift.specs.inner.Closing.{AllStand, EachStands, IsElsewhere, AreApart}
+use Rattle.gw_shift.specs.inner.Closing.{AllStand, EachStands, IsElsewhere, HavePlacesApart}
 
 abbrev place_of : Option Call → ℕ
 place_of None = 0
@@ -41,7 +41,7 @@ apart_own history place others [] apart stand mine = tt
 apart_own history place others (c ∷ calls) apart stand mine =
     (mine.0, held_by_none history place c others mine.0 apart stand, apart_own history place others calls apart stand mine.1)
 
-pub apart_known : (history : List Call) (passes : List Holder) → AreApart passes → EachStands history passes → AreKnown history passes
+pub apart_known : (history : List Call) (passes : List Holder) → HavePlacesApart passes → EachStands history passes → AreKnown history passes
 apart_known history [] apart stand = tt
 apart_known history (p ∷ passes) apart stand =
     (stand.0, apart_own history p.place passes p.calls apart.0 stand.2 stand.1, apart_known history passes apart.1 stand.2)

@@ -10,10 +10,9 @@ use Rattle.jr_disk.specs.declared.disk.Disk.{Ghosts}
 use Rattle.gw_answer.specs.declared.out.Out.{Out}
 use Rattle.gw_answer.specs.declared.refusal.Refusal.{Refusal}
 use Rattle.gw_answer.specs.declared.step.Step.{Step}
-use Rattle.jr_journal.specs.Parts.{disk_of}
+use Rattle.jr_journal.specs.Parts.{disk_under}
 use Rattle.gw_node.specs.Parts.{State}
 use Rattle.gw_node.specs.Calls.{StepCall}
-use Rattle.gw_node.specs.Carrying.{StepCarriesOn}
 use Rattle.gw_node.specs.Standing.{EventsOn}
 use Rattle.gw_shift.specs.inner.Passes.{call, calls_of}
 use Rattle.gw_shift.specs.Calls.{Call}
@@ -43,12 +42,12 @@ begins {G = G} opening first state same held = record {
   parts = [];
   whole = refl;
   leads = same;
-  failures = subst (λ (s : State G). G.failures (disk_of first.journal) + 0 ≤ G.failures (disk_of s.journal)) same (omega arith);
+  failures = subst (λ (s : State G). G.failures (disk_under first.journal) + 0 ≤ G.failures (disk_under s.journal)) same (omega arith);
 }
 
 -- one part more
 goes_on_by : {D : Type 0} {G : Ghosts D} (first : State G) (opening : List (List Op)) (calls part whole : List Call) (between new : State G)
-    → whole ≡ calls ++ part → DoesPart between part new → G.failures (disk_of between.journal) + failed_in part ≤ G.failures (disk_of new.journal)
+    → whole ≡ calls ++ part → DoesPart between part new → G.failures (disk_under between.journal) + failed_in part ≤ G.failures (disk_under new.journal)
     → IsLegalFrom first opening calls between → IsLegalFrom first opening whole new
 goes_on_by first opening calls part whole between new is does failures legal =
     let all : failed_in whole ≡ failed_in calls + failed_in part = ap failed_in is ∙ failed_both calls part in
@@ -86,10 +85,9 @@ called_so old step told answer said new same equal called =
 
 -- what the node's call ensures, of the values that are entered
 pub does_so : {D : Type 0} {G : Ghosts D} (old : State G) (place : ℕ) (step told : Step) (answer said : Result Out Refusal) (new : State G)
-    → told ≡ step → answer ≡ said → StepCall old told said new → StepCarriesOn old told said new → Does old (call place step answer) new
-does_so old place step told answer said new same equal called carried = record {
+    → told ≡ step → answer ≡ said → StepCall old told said new → Does old (call place step answer) new
+does_so old place step told answer said new same equal called = record {
   called = called_so old step told answer said new same equal called;
-  carried = subst (λ a. StepCarriesOn old step a new) (sym equal) (subst (λ s. StepCarriesOn old s said new) same carried);
   event = event_on old new step answer (called_so old step told answer said new same equal called);
 }
 
@@ -124,7 +122,7 @@ count_of_calls place (s ∷ steps) (a ∷ answers) few = omega (arith, count_of_
 pub do_so : {D : Type 0} {G : Ghosts D} (old : State G) (place most : ℕ) (steps : List (Arc Step Global)) (answers : List (Result Out Refusal)) (new : State G)
     → 0 < length answers → length answers ≤ most → most ≤ length steps
     → EventsOn old (take (length answers) (map arc_value (take most steps))) answers new
-    → G.failures (disk_of old.journal) + failed_all answers ≤ G.failures (disk_of new.journal)
+    → G.failures (disk_under old.journal) + failed_all answers ≤ G.failures (disk_under new.journal)
     → DoTogether old (calls_of place (map arc_value steps) answers) new
 do_so {G = G} old place most steps answers new some few within events failures =
     let all : List Step = map arc_value steps in

@@ -3,7 +3,7 @@ use Rattle.std.specs.Prelude.{◌≡◌, ◌<◌, ◌≤◌, ℕ, List, length, 
 use Rattle.gw_answer.specs.declared.step.Step.{Step}
 use Rattle.gw_answer.specs.declared.out.Out.{Out}
 use Rattle.gw_answer.specs.declared.refusal.Refusal.{Refusal}
-use Rattle.gw_answer.specs.Answers.{told}
+use Rattle.gw_answer.specs.Answers.{refusal_of_fault}
 use Rattle.gw_shift.specs.Calls.{Holder}
 use Rattle.gw_shift.specs.Passes.{seen_by, with_call, with_calls, held_as, held_from}
 use Rattle.gw_shift.specs.declared.fault.CallFault.{CallFault}
@@ -22,7 +22,8 @@ abbrev pub NotMade : Holder → Step → CallFault → Holder → Type 0
 NotMade old step faults.ShiftFull new = new ≡ old
 NotMade old step (faults.Behind held) new = (held < seen_by old) × (new ≡ old)
 NotMade old step faults.Memory new = new ≡ old
-NotMade old step (faults.Node number fault) new = Made old step (Err (told fault)) number new
+NotMade old step (faults.Node number fault) new =
+    Made old step (Err (refusal_of_fault fault)) number new
 
 -- The first of these calls were made: as many as there are answers, and one at least. Their numbers
 -- follow each other, and the first is above all that the pass has seen. The pass then holds what it

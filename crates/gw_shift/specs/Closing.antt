@@ -87,10 +87,10 @@ abbrev pub unused : ℕ → List (List Op) → Holder
 unused place opening = record { place = place; opening = opening; calls = [] }
 
 -- why a shift is not closed
-abbrev pub IsRefused : List (List Op) → List Call → List Holder → CloseFault → Type 0
-IsRefused opening history passes (faults.Stranger number) =
+abbrev pub IsCloseFault : List (List Op) → List Call → List Holder → CloseFault → Type 0
+IsCloseFault opening history passes (faults.Stranger number) =
     ((number ≡ 0) × (HaveOpening opening passes → ⊥))
     ⊎ (HaveOpening opening passes × IsStrange history passes number)
-IsRefused opening history passes (faults.Missing steps held) =
+IsCloseFault opening history passes (faults.Missing steps held) =
     HaveOpening opening passes × AreKnown history passes × (steps ≡ length history)
     × (held ≡ taken_by passes) × (held ≢ steps)

@@ -12,11 +12,11 @@ abbrev pub open_number : ShiftFault → ℕ
 open_number opens.Memory = 6
 
 -- the number of a call's fault
-abbrev pub call_number : CallFault → ℕ
-call_number calls.ShiftFull = 1
-call_number (calls.Behind held) = 2
-call_number (calls.Node number fault) = 3
-call_number calls.Memory = 6
+abbrev pub call_fault_number : CallFault → ℕ
+call_fault_number calls.ShiftFull = 1
+call_fault_number (calls.Behind held) = 2
+call_fault_number (calls.Node number fault) = 3
+call_fault_number calls.Memory = 6
 
 -- the number of a closing's fault
 abbrev pub close_number : CloseFault → ℕ

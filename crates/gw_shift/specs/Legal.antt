@@ -3,13 +3,12 @@ use Rattle.std.specs.Prelude.{◌≡◌, ◌<◌, ◌≤◌, ◌⊎◌, ◌+◌,
 use Rattle.rep_op.specs.declared.op.Op.{Op}
 use Rattle.rep_model.specs.Held.{IsHeld}
 use Rattle.jr_disk.specs.declared.disk.Disk.{Ghosts}
-use Rattle.jr_journal.specs.Parts.{disk_of}
+use Rattle.jr_journal.specs.Parts.{disk_under}
 use Rattle.gw_answer.specs.declared.out.Out.{Out}
 use Rattle.gw_answer.specs.declared.refusal.Refusal.{Refusal}
 use Rattle.gw_answer.specs.declared.step.Step.{Step}
 use Rattle.gw_node.specs.Parts.{State}
 use Rattle.gw_node.specs.Calls.{StepCall}
-use Rattle.gw_node.specs.Carrying.{StepCarriesOn}
 use Rattle.gw_node.specs.Standing.{EventOn, EventsOn}
 use Rattle.gw_node.specs.Failures.{failed}
 use Rattle.gw_shift.specs.Calls.{Call}
@@ -19,7 +18,6 @@ use Rattle.gw_shift.specs.Calls.{Call}
 pub record Does {D : Type 0} {G : Ghosts D} (old : State G) (call : Call)
     (new : State G) : Type 0 where
   pub called : StepCall old call.step call.answer new
-  pub carried : StepCarriesOn old call.step call.answer new
   pub event : EventOn old call.step call.answer new
 
 -- how many calls were answered with a failure of the disk
@@ -42,8 +40,8 @@ pub record DoTogether {D : Type 0} {G : Ghosts D} (old : State G) (calls : List 
     (new : State G) : Type 0 where
   pub some : 0 < length calls
   pub events : EventsOn old (steps_in calls) (answers_in calls) new
-  pub failures : G.failures (disk_of old.journal) + failed_in calls
-      ≤ G.failures (disk_of new.journal)
+  pub failures : G.failures (disk_under old.journal) + failed_in calls
+      ≤ G.failures (disk_under new.journal)
 
 -- a part of a history: a call by itself, or calls with one write
 abbrev pub DoesPart : {D : Type 0} {G : Ghosts D} → State G → List Call → State G → Type 0
@@ -72,5 +70,5 @@ pub record IsLegal {D : Type 0} {G : Ghosts D} (opening : List (List Op)) (histo
   pub parts : List (List Call)
   pub whole : calls_in parts ≡ history
   pub leads : Leads first parts state
-  pub failures : G.failures (disk_of first.journal) + failed_in history
-      ≤ G.failures (disk_of state.journal)
+  pub failures : G.failures (disk_under first.journal) + failed_in history
+      ≤ G.failures (disk_under state.journal)

@@ -15,26 +15,26 @@ use Rattle.gw_report.specs.Labels.{call_number, answer_number}
 use Rattle.gw_shift.specs.Calls.{Call}
 
 -- the kind of a call
-abbrev pub kind_of : Step → CallKind
-kind_of (steps.Frame from bytes moment) = kinds.Frame
-kind_of (steps.Take delta) = kinds.Take
-kind_of (steps.Tick moment) = kinds.Tick
-kind_of (steps.View client) = kinds.View
-kind_of steps.Digest = kinds.Digest
-kind_of (steps.Answer digest) = kinds.Answer
-kind_of steps.Compact = kinds.Compact
-kind_of steps.Reopen = kinds.Reopen
+abbrev pub call_kind : Step → CallKind
+call_kind (steps.Frame from bytes moment) = kinds.Frame
+call_kind (steps.Take delta) = kinds.Take
+call_kind (steps.Tick moment) = kinds.Tick
+call_kind (steps.View client) = kinds.View
+call_kind steps.Digest = kinds.Digest
+call_kind (steps.Answer digest) = kinds.Answer
+call_kind steps.Compact = kinds.Compact
+call_kind steps.Reopen = kinds.Reopen
 
 -- the number of an answer: 0 for a call that was done, else the number of the refusal
-abbrev pub answered : Result Out Refusal → ℕ
-answered (Ok out) = 0
-answered (Err refusal) = refusal_number refusal
+abbrev pub reply_number : Result Out Refusal → ℕ
+reply_number (Ok out) = 0
+reply_number (Err refusal) = refusal_number refusal
 
 -- whether a call is of this kind, and was answered so
 abbrev pub is_call : CallKind → CallAnswer → Call → Bool
 is_call kind answer call =
-    (call_number (kind_of call.step) == call_number kind)
-    && (answered call.answer == answer_number answer)
+    (call_number (call_kind call.step) == call_number kind)
+    && (reply_number call.answer == answer_number answer)
 
 -- how many calls of a history are of this kind, and were answered so
 abbrev pub sample_of : List Call → CallKind → CallAnswer → Sample

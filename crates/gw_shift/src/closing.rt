@@ -4,7 +4,7 @@ ghost use Rattle.std.specs.Prelude.{◌≡◌, ◌↔◌, ◌≤◌, ◌-◌, Is
 ghost use Rattle.rep_op.specs.declared.op.Op.{Op};
 ghost use Rattle.gw_shift.specs.declared.shift.TheConstants.{MAX_STEPS};
 ghost use Rattle.gw_shift.specs.Closing.{StandsIn, has_number, is_held, AreOwn, AreKnown, HaveOpening, IsStrangeIn, IsStrange, taken_by};
-ghost use Rattle.gw_shift.specs.inner.Closing.{AllStand, EachStands, IsElsewhere, AreApart};
+ghost use Rattle.gw_shift.specs.inner.Closing.{AllStand, EachStands, IsElsewhere, HavePlacesApart};
 
 use super::entry::{Entry, HeldCall};
 use super::pass::Pass;
@@ -155,7 +155,7 @@ fn is_elsewhere(place: u64, passes: &[Pass]) -> bool
 
 /// Whether no two of the passes have one place.
 fn are_apart(passes: &[Pass]) -> bool
-    ensures { IsTrue result → AreApart passes.now }
+    ensures { IsTrue result → HavePlacesApart passes.now }
 {
     let mut left = passes;
     'passes: while let Some((pass, rest)) = left.split_first() {

@@ -4,7 +4,7 @@ ghost use Rattle.std.specs.Prelude.{◌≡◌, ◌+◌, ◌<◌, ◌^◌, ◌++�
 ghost use Rattle.std.specs.Arc.{arc_value};
 ghost use Rattle.rep_op.specs.declared.op.Op.{Op};
 ghost use Rattle.gw_answer.specs.Answers.{said};
-ghost use Rattle.gw_shift.specs.inner.Passes.{made_of, made_after, told_by};
+ghost use Rattle.gw_shift.specs.inner.Passes.{delta_made, made_after, told_by};
 
 use super::entry::Entry;
 use gw_node::{Answer, Out};
@@ -15,8 +15,8 @@ use std::sync::Arc;
 
 /// What was answered, where it tells of a delta.
 fn told(answer: &Answer) -> Option<&Arc<Out>>
-    ensures { MatchOption result (made_of (said answer.now) ≡ None) (λ out. (delta : List Op)
-        × (made_of (said answer.now) ≡ Some delta) × ((arc_value out.now).made ≡ Some delta)) }
+    ensures { MatchOption result (delta_made (said answer.now) ≡ None) (λ out. (delta : List Op)
+        × (delta_made (said answer.now) ≡ Some delta) × ((arc_value out.now).made ≡ Some delta)) }
 {
     match answer {
         Ok(out) => match out.made.as_ref() {

@@ -47,7 +47,7 @@ impl<R: Replica, D: Disk + Drop> Locked<R, D> {
     ghost use Rattle.gw_shift.specs.Calls.{Call};
     ghost use Rattle.gw_shift.specs.inner.Passes.{call, calls_of, made_after, told_by};
     ghost use Rattle.gw_shift.specs.Passes.{held_from};
-    ghost use Rattle.gw_shift.specs.inner.Rooms.{IsRoomFor};
+    ghost use Rattle.gw_shift.specs.inner.Rooms.{IsRoomForCalls};
     ghost use Rattle.gw_shift.specs.inner.Calling.{Entered, EnteredInRow, NotEntered, IsNotTold};
     ghost use Rattle.gw_shift.specs.inner.Glances.{all_known};
     ghost use Rattle.gw_node.specs.Glancing.{glimpses_of};
@@ -110,7 +110,7 @@ impl<R: Replica, D: Disk + Drop> Locked<R, D> {
     ) -> Row
         requires some { (0 < most) × (most ≤ length steps.now) }
         requires left { vec_len self.old.history + most ≤ self.old.steps }
-        requires room { IsRoomFor (map arc_value steps.now) room }
+        requires room { IsRoomForCalls (map arc_value steps.now) room }
         ensures some { (0 < length result.answers.items) × (length result.answers.items ≤ most) }
         ensures history { self.new.history.items ≡ self.old.history.items
             ++ calls_of place (map arc_value steps.now) (map said result.answers.items) }
@@ -143,7 +143,7 @@ impl<R: Replica, D: Disk + Drop> Locked<R, D> {
         room: Room,
     ) -> Result<(Row, u64), CallFault>
         requires some { 0 < length steps.now }
-        requires room { IsRoomFor (map arc_value steps.now) room }
+        requires room { IsRoomForCalls (map arc_value steps.now) room }
         ensures ok { IfOk result (λ r. EnteredInRow self.old.history.items pass.now
             (map arc_value steps.now) (map said r.0.answers.items) r.1 self.new.history.items) }
         ensures held { IfOk result (λ r. r.0.held.items
@@ -170,7 +170,7 @@ impl<R: Replica, D: Disk + Drop> Locked<R, D> {
 
     /// Shares of what was answered to the calls above a number that made a delta, with the numbers
     /// of the calls: the first of them, at most so many.
-    pub(crate) fn made_above(
+    pub(crate) fn deltas_made_after(
         &self,
         alloc: Global,
         pass: &Pass,

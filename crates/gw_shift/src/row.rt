@@ -8,7 +8,7 @@ ghost use Rattle.std.specs.Arc.{arc_value};
 ghost use Rattle.gw_answer.specs.Answers.{said};
 ghost use Rattle.gw_shift.specs.Passes.{held_as, held_from};
 ghost use Rattle.gw_shift.specs.inner.Passes.{call, calls_of};
-ghost use Rattle.gw_shift.specs.inner.Rooms.{IsEmptyRow, IsRoomFor};
+ghost use Rattle.gw_shift.specs.inner.Rooms.{IsEmptyCallRow, IsRoomForCalls};
 
 use super::entry::{Entry, HeldCall};
 use gw_answer::three_shares;
@@ -84,7 +84,7 @@ fn shares_of(alloc: Global, steps: &[Arc<Step>]) -> Result<Vec<TwoShares>, Alloc
 
 /// A row of no call, with room for so many.
 fn empty_row(alloc: Global, count: usize) -> Result<Row, AllocError>
-    ensures { IfOk result (IsEmptyRow count) }
+    ensures { IfOk result (IsEmptyCallRow count) }
 {
     let entries = Vec::with_capacity(alloc, count)?;
     let held = Vec::with_capacity(alloc, count)?;
@@ -98,7 +98,7 @@ fn empty_row(alloc: Global, count: usize) -> Result<Row, AllocError>
 
 /// What a row of these calls takes.
 pub(crate) fn room_for(alloc: Global, steps: &[Arc<Step>]) -> Result<Room, AllocError>
-    ensures { IfOk result (IsRoomFor (map arc_value steps.now)) }
+    ensures { IfOk result (IsRoomForCalls (map arc_value steps.now)) }
 {
     let row = empty_row(alloc, steps.len())?;
     let replies = Vec::with_capacity(alloc, steps.len())?;
@@ -164,7 +164,7 @@ pub(crate) fn row_of(
     replies: Vec<Reply>,
 ) -> Row
     requires few { length replies.items ≤ length shares.items }
-    requires empty { IsEmptyRow (length replies.items) row }
+    requires empty { IsEmptyCallRow (length replies.items) row }
     requires numbers { number + length replies.items < 2 ^ 64 }
     ensures entries { result.entries.items ≡ calls_of place shares.items replies.items }
     ensures held { result.held.items ≡ held_from number shares.items replies.items }

@@ -149,11 +149,11 @@ impl<R: Replica, D: Disk + Drop> Shift<R, D> {
     /// the calls that were made, their answers and their numbers, which follow each other; that of
     /// the first comes back.
     ///
-    /// A refusal of the gateway is an answer. The faults, in the order in which they are looked for:
-    /// `ShiftFull`, the history has as many calls as the shift was opened for; `Behind`, the pass
-    /// has seen more calls than this history has. With both nothing was done, nor after `Memory`,
-    /// which may stand in their place. If the history has room for some of the calls alone, the
-    /// others are not made.
+    /// A refusal of the gateway is an answer. The faults, in the order in which they are looked
+    /// for: `ShiftFull`, the history has as many calls as the shift was opened for; `Behind`, the
+    /// pass has seen more calls than this history has. With both nothing was done, nor after
+    /// `Memory`, which may stand in their place. If the history has room for some of the calls
+    /// alone, the others are not made.
     pub fn call_all(
         &self,
         rt: &impl Wait,
@@ -209,7 +209,10 @@ impl<R: Replica, D: Disk + Drop> Shift<R, D> {
         ensures most { IfOk result (λ all. length all.items ≤ max) }
         ensures err { IfErr result (MayNotTell pass.now) }
     {
-        let found = self.locked.lock(rt).made_above(alloc, pass, number, max);
+        let found = self
+            .locked
+            .lock(rt)
+            .deltas_made_after(alloc, pass, number, max);
         match found {
             Ok(shares) => Ok(copies(alloc, shares.as_slice())?),
             Err(fault) => Err(fault),

@@ -72,12 +72,13 @@ fn count(history: &[Entry], kind: CallKind, answer: CallAnswer) -> usize
 fn is_call(entry: &Entry, kind: CallKind, answer: CallAnswer) -> bool
     ensures { result ≡ spec.is_call kind answer entry.now }
 {
-    kind_of(&entry.step).number() == kind.number() && answered(&entry.answer) == answer.number()
+    call_kind(&entry.step).number() == kind.number()
+        && reply_number(&entry.answer) == answer.number()
 }
 
 /// The kind of a call.
-fn kind_of(step: &Step) -> CallKind
-    ensures { result ≡ spec.kind_of step.now }
+fn call_kind(step: &Step) -> CallKind
+    ensures { result ≡ spec.call_kind step.now }
 {
     match step {
         Step::Frame { .. } => CallKind::Frame,
@@ -92,8 +93,8 @@ fn kind_of(step: &Step) -> CallKind
 }
 
 /// The number of an answer: 0 for a call that was done, else the number of the refusal.
-fn answered(answer: &Answer) -> u8
-    ensures { result ≡ spec.answered (said answer.now) }
+fn reply_number(answer: &Answer) -> u8
+    ensures { result ≡ spec.reply_number (said answer.now) }
 {
     match answer {
         Ok(_) => 0,

@@ -25,7 +25,6 @@ use gw_play::{Counted, Held, Source, play, play_with};
 use gw_random::{Found, RandomFault, Report, random_run};
 use rep_plain::Plain;
 use std::alloc::Global;
-use std::env::Env;
 use std::io::{ErrorKind, Write};
 use std::process::ExitCode;
 use std::{env, io};
@@ -52,13 +51,13 @@ fn main(rt: HostRuntime) -> ExitCode {
 }
 
 /// What the command line asks for.
-fn asked<T: Env>(rt: &T, alloc: Global) -> Result<Asked, Stop> {
+fn asked(rt: &HostRuntime, alloc: Global) -> Result<Asked, Stop> {
     let words = given(rt, alloc)?;
     read_words(alloc, words.as_slice())
 }
 
 /// The words of the command line, the program's name first.
-fn given<T: Env>(rt: &T, alloc: Global) -> Result<Vec<String>, Stop> {
+fn given(rt: &HostRuntime, alloc: Global) -> Result<Vec<String>, Stop> {
     match env::args(&(rt, alloc)) {
         Ok(words) => Ok(words.collect(alloc)?),
         Err(error) if error.kind() == ErrorKind::OutOfMemory => Err(Stop::Memory),

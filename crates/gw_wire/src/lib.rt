@@ -1,7 +1,8 @@
 //! Where datagrams come from and where replies go.
 //!
-//! - `ends`: what a gateway asks of the outside (`Wire`, `Post`, `Gate`).
-//! - `udp`: a wire and a post over one UDP socket (`Socket`, with `Ears` and `Mouth`).
+//! - `traits`: what a gateway asks of the outside (`Wire`, `Post`, `Gate`), and what a receive
+//!   brings (`Came`).
+//! - `udp`: a wire and a post over one UDP socket (`Socket`, with `UdpReceiver` and `UdpSender`).
 //! - `clock`: the clock of a field, which stands still while its gateway does, with its moments
 //!   (`FieldClock`), and the date of the machine.
 //! - `outage`: while nothing can be sent, no time passes either (`Outage`).
@@ -17,14 +18,14 @@
 #![tactic(auto)]
 
 mod clock;
-mod ends;
 mod outage;
+mod traits;
 mod udp;
 
 pub use clock::{
     FIRST_DATE, FieldClock, LARGEST_DRIFT, LONGEST_BREATH, Look, date, is_astray, is_date,
     look_after, millisecond, second, stood_still,
 };
-pub use ends::{Arrival, Gate, OpenGate, Post, Tally, Unsent, Wire, WireFault};
 pub use outage::{LONGEST_OUTAGE, OUTAGE_LINE_PAUSE, Outage, is_long, is_outage};
-pub use udp::{Ears, Mouth, Socket, address};
+pub use traits::{Arrival, Came, Gate, OpenGate, Post, Tally, Unsent, Wire, WireFault};
+pub use udp::{Socket, UdpReceiver, UdpSender, address};

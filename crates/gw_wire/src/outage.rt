@@ -4,7 +4,7 @@ ghost use Rattle.std.specs.Prelude.{◌≡◌};
 ghost use Rattle.gw_wire.specs.Outages as spec;
 
 use super::clock::millisecond;
-use super::ends::Post;
+use super::traits::Post;
 use sn_local::Addr;
 use std::alloc::Global;
 use std::mem;
@@ -18,7 +18,8 @@ pub const LONGEST_OUTAGE: u64 = 600_000;
 /// How many milliseconds of an outage pass before it is told, and then told again.
 pub const OUTAGE_LINE_PAUSE: u64 = 60_000;
 
-/// Whether the clock stands still for an outage, by the milliseconds in which that began and of now.
+/// Whether the clock stands still for an outage, by the milliseconds in which that began and of
+/// now.
 pub fn is_outage(began: u64, now: u64) -> bool
     ensures { result ≡ spec.is_outage began now }
 {
@@ -43,7 +44,8 @@ struct Letter {
 /// network may be down: what a client does not answer then says nothing of it. So no time passes
 /// for any client before that datagram, or another one, is sent. After `LONGEST_OUTAGE` time passes
 /// all the same, until one was sent and the next one cannot be: it may be for an address that is
-/// nobody's.
+/// nobody's. Workers and the clock's thread share it. Its lock is held to put or take that
+/// datagram, and not to send it.
 #[derive(Drop)]
 pub struct Outage {
     is_on: AtomicBool,
@@ -65,7 +67,7 @@ impl Outage {
         }
     }
 
-    /// A datagram was sent.
+    /// Notes that a datagram was sent. Any thread does, without a lock.
     pub fn note_sent(&self) {
         if self.is_on.load(Ordering::SeqCst) || self.began.load(Ordering::SeqCst) != 0 {
             self.is_on.store(false, Ordering::SeqCst);
@@ -73,7 +75,8 @@ impl Outage {
         }
     }
 
-    /// This datagram could not be sent. If memory for a copy is refused, that is not noted.
+    /// Notes that this datagram could not be sent. If memory for a copy is refused, that is not
+    /// noted. Any thread does.
     pub fn note_unsent<T: Wait>(&self, rt: &T, alloc: Global, to: Addr, bytes: &[u8]) {
         if self.is_on.load(Ordering::SeqCst) {
             return;
@@ -87,7 +90,7 @@ impl Outage {
     }
 
     /// Whether the clock stands still for an outage: the datagram that could not be sent still
-    /// cannot be. Only one thread may ask at a time.
+    /// cannot be. Only one thread may ask at a time: the clock's does.
     pub fn lasts<T: Wait + Clock, P: Post>(&self, rt: &T, post: &P) -> bool {
         if !self.is_on.load(Ordering::SeqCst) {
             return false;

@@ -5,7 +5,7 @@ ghost use Rattle.gw_wire.specs.Addresses.{IsAddress};
 ghost use Rattle.gw_wire.specs.inner.Addresses as spec;
 
 use super::clock::FieldClock;
-use super::ends::{Arrival, Post, Tally, Unsent, Wire, WireFault};
+use super::traits::{Arrival, Came, Post, Tally, Unsent, Wire, WireFault};
 use jr_disk::Failures;
 use libc::net::{SO_RCVBUF, SO_SNDBUF, SOL_SOCKET, setsockopt};
 use mio::net::UdpSocket;
@@ -21,18 +21,18 @@ use std::{io, thread};
 
 /// How many milliseconds a receive waits for a datagram. As long a shift that has had all its calls
 /// may go on.
-const A_WHILE: u64 = 10;
+const RECV_TIMEOUT_MS: u64 = 10;
 
 /// How many milliseconds a reader rests that has no room for more.
-const A_REST: u64 = 1;
+const FULL_WAIT_MS: u64 = 1;
 
 /// How many octets the system is asked to keep of datagrams that were not read yet. It keeps less
 /// if its own limit (`net.core.rmem_max`) is less.
 const UNREAD_OCTETS: i32 = 8_388_608;
 
 /// How many octets the system is asked to keep of datagrams that have not gone out yet: no thread
-/// waits for a slow network then. It keeps twice as many, some 1,000 small datagrams: more than that
-/// its queues may drop. It keeps less if its own limit (`net.core.wmem_max`) is less.
+/// waits for a slow network then. It keeps twice as many, some 1,000 small datagrams: more than
+/// that its queues may drop. It keeps less if its own limit (`net.core.wmem_max`) is less.
 const UNSENT_OCTETS: i32 = 376_832;
 
 /// How often a datagram is offered to the system while that has no room for it: some tens of
@@ -53,9 +53,9 @@ pub struct Socket {
     pub failures: Failures,
 }
 
-/// The reader's side of a socket.
+/// The reader's side of a socket. One thread has it, and waits in it without a lock.
 #[derive(Drop)]
-pub struct Ears<'a> {
+pub struct UdpReceiver<'a> {
     clock: &'a FieldClock,
     socket: &'a UdpSocket,
     poll: &'a mut Poll,
@@ -68,9 +68,9 @@ pub struct Ears<'a> {
     pub drops: Tally,
 }
 
-/// The side by which threads send.
+/// The side by which threads send. They share it, and take no lock.
 #[derive(Clone, Copy, Drop)]
-pub struct Mouth<'a> {
+pub struct UdpSender<'a> {
     socket: &'a UdpSocket,
     /// Whether the system had no room for the last datagram, however often that was offered.
     choked: &'a AtomicBool,
@@ -119,7 +119,7 @@ impl Socket {
 
     /// The two sides, of which one gives each datagram the moment of this clock. Those who read
     /// count from here on.
-    pub fn sides<'a>(&'a mut self, clock: &'a FieldClock) -> (Ears<'a>, Mouth<'a>)
+    pub fn sides<'a>(&'a mut self, clock: &'a FieldClock) -> (UdpReceiver<'a>, UdpSender<'a>)
         ensures failures { result.0.failures.count ≡ 0 }
         ensures datagrams { (result.0.arrivals.count ≡ 0) × (result.0.drops.count ≡ 0) }
     {
@@ -131,7 +131,7 @@ impl Socket {
             local: _,
             failures: _,
         } = self;
-        let ears = Ears {
+        let ears = UdpReceiver {
             clock,
             socket,
             poll,
@@ -140,7 +140,7 @@ impl Socket {
             arrivals: Tally::none(),
             drops: Tally::none(),
         };
-        (ears, Mouth { socket, choked })
+        (ears, UdpSender { socket, choked })
     }
 }
 
@@ -196,7 +196,7 @@ fn value_of(room: i32) -> [u8; 16] {
     value
 }
 
-impl<'a> Ears<'a> {
+impl<'a> UdpReceiver<'a> {
     /// A datagram that is there, or nothing. A sender that has no IPv4 address is nothing.
     fn look(&self, buffer: &mut [u8]) -> io::Result<Option<(usize, Addr)>> {
         match self.socket.recv_from(buffer) {
@@ -220,7 +220,7 @@ impl<'a> Ears<'a> {
             return Ok(Some(found));
         }
         self.poll
-            .poll(self.events, Some(Duration::from_millis(A_WHILE)))?;
+            .poll(self.events, Some(Duration::from_millis(RECV_TIMEOUT_MS)))?;
         self.look(buffer)
     }
 
@@ -247,21 +247,22 @@ impl<'a> Ears<'a> {
     }
 }
 
-impl<'a> Wire for Ears<'a> {
+impl<'a> Wire for UdpReceiver<'a> {
     ghost failures = { λ w. w.failures.count };
 
     ghost arrivals = { λ w. w.arrivals.count };
 
     ghost drops = { λ w. w.drops.count };
 
-    fn recv(&mut self, buffer: &mut [u8]) -> Result<Option<Arrival>, WireFault> {
+    /// A socket is never over.
+    fn recv(&mut self, buffer: &mut [u8]) -> Result<Came, WireFault> {
         match self.wait(buffer) {
-            Ok(None) => Ok(None),
+            Ok(None) => Ok(Came::Nothing),
             Ok(Some((size, from))) => match self.arrived(buffer.len(), size, from) {
-                None => Ok(None),
+                None => Ok(Came::Nothing),
                 Some(arrival) => {
                     self.arrivals = Tally::next(&self.arrivals);
-                    Ok(Some(arrival))
+                    Ok(Came::Datagram(arrival))
                 }
             },
             Err(_) => {
@@ -271,18 +272,18 @@ impl<'a> Wire for Ears<'a> {
         }
     }
 
-    fn unheard(&mut self) {
+    fn note_dropped(&mut self) {
         self.drops = Tally::next(&self.drops);
     }
 
     fn rest(&mut self) {
         let _ = self
             .poll
-            .poll(self.events, Some(Duration::from_millis(A_REST)));
+            .poll(self.events, Some(Duration::from_millis(FULL_WAIT_MS)));
     }
 }
 
-impl<'a> Post for Mouth<'a> {
+impl<'a> Post for UdpSender<'a> {
     /// Where the system has no room, the datagram is offered again while other threads run: a
     /// client that wakes is sent all that waits at quality of service 0 at once, and nothing sends
     /// that again.

@@ -2,7 +2,7 @@
 use Rattle.std.proofs.Common.{◌≡◌, ◌⊎◌, ℕ, ◌-◌, zero, suc, take, List, [], ◌∷◌, ◌++◌, slice_get, Option, Some, None, Contains, Result, refl, sym, ap, ◌∙◌, subst, inl, inr}
 use Rattle.std.proofs.lemmas.Option.{slice_get_within, get_or_from_slice_get}
 use Rattle.rep_op.specs.declared.op.Op.{Op}
-use Rattle.jr_disk.specs.declared.disk.Plan.{Plan as Failure}
+use Rattle.jr_disk.specs.declared.disk.Failure.{Failure}
 use Rattle.gw_answer.specs.declared.out.Out.{Out}
 use Rattle.gw_answer.specs.declared.refusal.Refusal.{Refusal}
 use Rattle.gw_answer.specs.declared.step.Step.{Step}
@@ -12,10 +12,10 @@ use Rattle.gw_event.specs.Gateways.{Gateway}
 use Rattle.gw_event.specs.Event.{StepOf, Event}
 use Rattle.std.specs.List.{AllByRecursion}
 use Rattle.gw_event.specs.Together.{InTurnBy, CanWrite}
-use Rattle.gw_node.specs.Standing.{fated, Agrees, OwnAgrees, AgreeInTurn}
+use Rattle.gw_node.specs.Standing.{with_failure, CallAgrees, OwnAgrees, AgreeInTurn}
 use Rattle.gw_world.specs.declared.event.Call.{Call}
 use Rattle.gw_world.specs.declared.event.Call.TheVariants as calls
-use Rattle.gw_world.specs.Field.{Field, IsAt, changed, IsStepOf, AreStepsOf}
+use Rattle.gw_world.specs.Field.{Field, IsAt, field_changed, IsStepOf, AreStepsOf}
 use Rattle.gw_world.specs.declared.world.WorldFault.{WorldFault}
 use Rattle.gw_world.specs.declared.world.WorldFault.TheVariants as stops
 use Rattle.gw_world.specs.inner.Events.{AgreeAlong, listing, CallMissing, CallsMissing}
@@ -27,13 +27,13 @@ use Rattle.gw_world.proofs.Steadiness.{plan-agrees}
 stands-in : {A : Type 0} (xs : List A) (k : ℕ) (x : A) → slice_get xs k ≡ Some x → Contains xs x
 stands-in xs k x e = (k, slice_get_within xs k x e, get_or_from_slice_get xs k x x e)
 
-call-agrees : (field : Field) (s : FlushField field) (w : WholeField field) (n i : ℕ) (g : Gateway) (at : IsAt field n i g) (call : Call) (step : Step) → IsStepOf field call step → Agrees g step
+call-agrees : (field : Field) (s : FlushField field) (w : WholeField field) (n i : ℕ) (g : Gateway) (at : IsAt field n i g) (call : Call) (step : Step) → IsStepOf field call step → CallAgrees g step
 call-agrees field s w n i g at (calls.Frame from bytes now) step is =
-    subst (λ (x : Step). Agrees g x) (sym is) (λ plan delta is_plan is_delta. plan-agrees field n i g (Datagram from bytes) now plan delta (steady-is field s w) at is_plan is_delta)
+    subst (λ (x : Step). CallAgrees g x) (sym is) (λ plan delta is_plan is_delta. plan-agrees field n i g (Datagram from bytes) now plan delta (steady-is field s w) at is_plan is_delta)
 call-agrees field s w n i g at (calls.Tick now) step is =
-    subst (λ (x : Step). Agrees g x) (sym is) (λ plan delta is_plan is_delta. plan-agrees field n i g Clock now plan delta (steady-is field s w) at is_plan is_delta)
+    subst (λ (x : Step). CallAgrees g x) (sym is) (λ plan delta is_plan is_delta. plan-agrees field n i g Clock now plan delta (steady-is field s w) at is_plan is_delta)
 call-agrees field s w n i g at (calls.Take delta) step is =
-    subst (λ (x : Step). Agrees g x) (sym is.2) (delta-agrees field w g is.0 (stands-in field.gateways i g at.1) (stands-in field.deltas (delta - 1) is.0 is.1.1))
+    subst (λ (x : Step). CallAgrees g x) (sym is.2) (delta-agrees field w g is.0 (stands-in field.gateways i g at.1) (stands-in field.deltas (delta - 1) is.0 is.1.1))
 
 -- a field in which the gateway is the next one, and the calls behind are what they were
 record Onward (n i : ℕ) (next : Gateway) (called : List Call) (more : List Step) : Type 0 where
@@ -46,31 +46,31 @@ record Onward (n i : ℕ) (next : Gateway) (called : List Call) (more : List Ste
 module _ (before : Field) (s : FlushField before) (w : WholeField before) (n i : ℕ) (g : Gateway) (at : IsAt before n i g) (call : Call) (step : Step) (is : IsStepOf before call step) (called : List Call) (more : List Step) (given : AreStepsOf before called more)
     (fate : Option Failure) where
   abbrev fated_field : Field
-  fated_field = changed before i (fated fate g) []
+  fated_field = field_changed before i (with_failure fate g) []
 
   fated_sound : FlushField fated_field × WholeField fated_field
-  fated_sound = none-back before s w n i g at (fated fate g) (record { config = refl; taken = refl; none = refl })
+  fated_sound = none-back before s w n i g at (with_failure fate g) (record { config = refl; taken = refl; none = refl })
 
-  fated_at : IsAt fated_field n i (fated fate g)
-  fated_at = at-changed before n i g (fated fate g) [] at refl
+  fated_at : IsAt fated_field n i (with_failure fate g)
+  fated_at = at-changed before n i g (with_failure fate g) [] at refl
 
-  onward : (answer : Result Out Refusal) (next : Gateway) (made : List (List Op)) → Event (fated fate g) step answer next made → Onward n i next called more
+  onward : (answer : Result Out Refusal) (next : Gateway) (made : List (List Op)) → Event (with_failure fate g) step answer next made → Onward n i next called more
   onward answer next made (inl does) =
-      let one = one-call fated_field n i (fated fate g) next call step answer made fated_at (step-later before i (fated fate g) [] call step is) does in
-      let sound = call-sound fated_field (changed fated_field i next made) n call answer one.0 fated_sound.0 fated_sound.1 in
+      let one = one-call fated_field n i (with_failure fate g) next call step answer made fated_at (step-later before i (with_failure fate g) [] call step is) does in
+      let sound = call-sound fated_field (field_changed fated_field i next made) n call answer one.0 fated_sound.0 fated_sound.1 in
       record {
-        field = changed fated_field i next made;
+        field = field_changed fated_field i next made;
         flush = sound.flush;
         whole = sound.whole;
-        at = at-changed fated_field n i (fated fate g) next made fated_at one.1;
-        given = steps-later fated_field i next made called more (steps-later before i (fated fate g) [] called more given);
+        at = at-changed fated_field n i (with_failure fate g) next made fated_at one.1;
+        given = steps-later fated_field i next made called more (steps-later before i (with_failure fate g) [] called more given);
       }
   onward answer next made (inr none) = record {
     field = fated_field;
     flush = fated_sound.0;
     whole = fated_sound.1;
     at = subst (λ (x : Gateway). IsAt fated_field n i x) (sym none.1.same) fated_at;
-    given = steps-later before i (fated fate g) [] called more given;
+    given = steps-later before i (with_failure fate g) [] called more given;
   }
 
 pub agrees-along : (field : Field) (s : FlushField field) (w : WholeField field) (n i : ℕ) (g : Gateway) (at : IsAt field n i g) (called : List Call) (more : List Step) → AreStepsOf field called more → AgreeAlong g more
@@ -84,11 +84,11 @@ agrees-along field s w n i g at (call ∷ called) [] given = absurd given
 
 -- ---- along the calls, and from some of them on
 
-pub along-turn : (g : Gateway) (more : List Step) (fate : Option Failure) → AgreeAlong g more → AgreeInTurn (fated fate g) more
+pub along-turn : (g : Gateway) (more : List Step) (fate : Option Failure) → AgreeAlong g more → AgreeInTurn (with_failure fate g) more
 along-turn g [] fate h = tt
 along-turn g (step ∷ more) fate h = (one g step fate h.0, λ answer next made event. along-turn next more next.drive.plan (h.1 fate answer next made event))
   where
-    one : (g : Gateway) (step : Step) (fate : Option Failure) → Agrees g step → Agrees (fated fate g) step
+    one : (g : Gateway) (step : Step) (fate : Option Failure) → CallAgrees g step → CallAgrees (with_failure fate g) step
     one g (steps.Frame from bytes now) fate h = h
     one g (steps.Take delta) fate h = h
     one g (steps.Tick now) fate h = h

@@ -10,13 +10,13 @@ use Rattle.rep_op.specs.declared.op.Op.TheVariants.{Session as OfSession, Put as
 use Rattle.rep_op.specs.declared.op.Retained.{Retained}
 use Rattle.rep_op.specs.Orders.{ShareName, HasTwice, clock_of}
 use Rattle.rep_ops.specs.Deltas.{IsDelta}
-use Rattle.rep_op.specs.Sets.{operation_at, put_at, acknowledges, is_acknowledged, retain_at, Stands, Agrees}
+use Rattle.rep_op.specs.Sets.{operation_at, put_at, acknowledges, is_acknowledged, retain_at, HasOperation, Agrees}
 use Rattle.rep_ops.proofs.Joined.{rising_ascending}
 use Rattle.rep_ops.proofs.Rising.{rising_apart}
 use Rattle.rep_op.proofs.Sets.{IsIn, at_in, any_in, one_of_name}
 use Rattle.rep_model.proofs.Joins.{within-left}
 use Rattle.rep_model.proofs.Readers.{operation_at_both, put_at_both, is_acknowledged_both, retain_at_both}
-use Rattle.sn_plan.specs.Own.{IsFresh}
+use Rattle.sn_plan.specs.Own.{IsFreshName}
 use Rattle.sn_local.proofs.Entries.{same_client-itself, none_or}
 use Rattle.gw_event.specs.Event.{HaveName}
 use Rattle.gw_node.proofs.Occurring.{is_there, operation_occurs, put_occurs, retain_occurs}
@@ -58,7 +58,7 @@ is_in op T h = at_in op T h.0 (slice_get-get_or T h.0 op h.1 ∙ ap Some h.2)
 covered : (c : List ℕ) (origin first last seq : ℕ) → first ≤ seq → seq ≤ last → acknowledges c (seq, origin) (Ack c origin first last) ≡ true
 covered c origin first last seq lower upper = and_from _ _ (and_from _ _ (and_from _ _ (same_client-itself c) (eq-eqb origin origin refl)) (le-leb first seq lower)) (le-leb seq last upper)
 
-pub stands-alone : (T : List Op) (op : Op) → Contains T op → IsAlone T op → Stands T op
+pub stands-alone : (T : List Op) (op : Op) → Contains T op → IsAlone T op → HasOperation T op
 stands-alone T (OfSession c s k o) h alone =
     let r = some-is (operation_at c T (s, k)) (is_there T (OfSession c s k o) h) in
     r.1 ∙ ap Some (change-alone T c s k o r.0 alone r.1)
@@ -105,7 +105,7 @@ delta-once : (D : List Op) → IsDelta D → ¬ (HasTwice D)
 delta-once D d = rising_apart 1 D (rising_ascending D d.well_made d.ascending)
 
 -- each operation of a delta stands in it
-pub delta-stands : (D : List Op) → IsDelta D → (op : Op) → Contains D op → Stands D op
+pub delta-stands : (D : List Op) → IsDelta D → (op : Op) → Contains D op → HasOperation D op
 delta-stands D d op h = stands-alone D op h (λ other there named. one_of_name D (delta-once D d) other op (is_in other D there) (is_in op D h) (shared other op named))
 
 -- in one place
@@ -122,14 +122,14 @@ delta-place D d k l a b at there named =
 pub contains_at : (T : List Op) (k : ℕ) (op : Op) → slice_get T k ≡ Some op → Contains T op
 contains_at T k op e = (k, slice_get_within T k op e, get_or_from_slice_get T k op op e)
 
-pub stands-left : (A B : List Op) (op : Op) → Stands A op → Stands (A ++ B) op
+pub stands-left : (A B : List Op) (op : Op) → HasOperation A op → HasOperation (A ++ B) op
 stands-left A B (OfSession c s k o) h = (within-left A B).operations_in c (s, k) o h
 stands-left A B (OfPut c p) h = (within-left A B).puts_in c (p.seq, p.origin) p h
 stands-left A B (OfRetain t k) h = (within-left A B).retains_in t (clock_of k) k h
 stands-left A B (Ack c origin first last) h = λ seq lower upper. (within-left A B).acknowledgements_in c (seq, origin) (h seq lower upper)
 
 -- under a name that is fresh before it
-pub stands-right : (A B : List Op) (op : Op) → IsFresh A op → Stands B op → Stands (A ++ B) op
+pub stands-right : (A B : List Op) (op : Op) → IsFreshName A op → HasOperation B op → HasOperation (A ++ B) op
 stands-right A B (OfSession c s k o) fresh h = operation_at_both c A B (s, k) ∙ none_or (operation_at c A (s, k)) (operation_at c B (s, k)) fresh ∙ h
 stands-right A B (OfPut c p) fresh h = put_at_both c A B (p.seq, p.origin) ∙ none_or (put_at c A (p.seq, p.origin)) (put_at c B (p.seq, p.origin)) fresh ∙ h
 stands-right A B (OfRetain t k) fresh h = retain_at_both t A B (clock_of k) ∙ none_or (retain_at t A (clock_of k)) (retain_at t B (clock_of k)) fresh ∙ h
@@ -137,7 +137,7 @@ stands-right A B (Ack c origin first last) fresh h = λ seq lower upper.
     is_acknowledged_both c A B (seq, origin) ∙ or_right (is_acknowledged c A (seq, origin)) (is_acknowledged c B (seq, origin)) (h seq lower upper)
 
 -- what stands under a name is on the list
-pub stands-contains : (T : List Op) (a b : Op) → HaveName a b → Stands T a → Contains T a
+pub stands-contains : (T : List Op) (a b : Op) → HaveName a b → HasOperation T a → Contains T a
 stands-contains T (OfSession c s k o) (OfSession d t j p) named h = operation_occurs c T (s, k) o h
 stands-contains T (OfPut c p) (OfPut d q) named h = (put_occurs c T (p.seq, p.origin) p h).0
 stands-contains T (OfRetain t k) (OfRetain u l) named h = (retain_occurs t T (clock_of k) k h).0

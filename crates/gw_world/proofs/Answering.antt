@@ -9,7 +9,7 @@ use Rattle.rep_op.specs.declared.op.Op.TheVariants.{Session as OfSession, Put as
 use Rattle.rep_ops.specs.Deltas.{IsDelta}
 use Rattle.rep_op.specs.WellMade.{is_well_made}
 use Rattle.rep_op.specs.Orders.{clock_of}
-use Rattle.rep_op.specs.Sets.{operation_at, put_at, is_acknowledged, retain_at, Stands, IsConsistent, Within, Same}
+use Rattle.rep_op.specs.Sets.{operation_at, put_at, is_acknowledged, retain_at, HasOperation, IsConsistent, Within, Same}
 use Rattle.rep_ops.specs.Splitting.{all_of, AreDeltasOf}
 use Rattle.rep_ops.proofs.Joined.{rising_ascending, ascending_rising}
 use Rattle.rep_ops.proofs.Rising.{Past, Rising}
@@ -130,7 +130,7 @@ some-answered d S made h writable =
     let whole = deltas-delta h.0 made h.2 in record {
       proper = parts-proper made whole;
       writable = writable;
-      consistent = all-moved (Stands (all_of made)) (all_of made) (λ op there. delta-stands (all_of made) whole op there);
+      consistent = all-moved (HasOperation (all_of made)) (all_of made) (λ op there. delta-stands (all_of made) whole op there);
       within = within-trans (all_of made) h.0 S (within-same (all_of made) h.0 (deltas-same h.0 made h.2)) (within-trans h.0 (keep S) S (rest-within d (keep S) h.0 h.1) (kept-within S));
     }
 
@@ -160,8 +160,8 @@ answer-told asker peer (Err refusals.Memory) made h = absurd h
 -- ---- what holds of each operation of the peer's set, and of each acknowledgement, holds of each that is answered
 
 module _ (P : Op → Type 0) (acks : (c : List ℕ) (origin first last : ℕ) → P (Ack c origin first last)) (S : List Op) (made : List (List Op)) (b : Answered S made) (all : AllByRecursion P S) where
-  stands-there : (op : Op) → Contains (all_of made) op → Stands (all_of made) op
-  stands-there op h = All-contains (Stands (all_of made)) (all_of made) op (All-from_recursion (Stands (all_of made)) (all_of made) b.consistent) h
+  stands-there : (op : Op) → Contains (all_of made) op → HasOperation (all_of made) op
+  stands-there op h = All-contains (HasOperation (all_of made)) (all_of made) op (All-from_recursion (HasOperation (all_of made)) (all_of made) b.consistent) h
 
   of_set : (op : Op) → Contains S op → P op
   of_set op h = All-contains P S op (All-from_recursion P S all) h

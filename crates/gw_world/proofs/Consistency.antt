@@ -9,7 +9,7 @@ use Rattle.rep_op.specs.declared.op.Subject.{Subject}
 use Rattle.rep_op.specs.declared.op.Op.{Op}
 use Rattle.rep_op.specs.declared.op.Op.TheVariants.{Session as OfSession, Put as OfPut, Ack, Retain as OfRetain}
 use Rattle.rep_ops.specs.Deltas.{IsDelta}
-use Rattle.rep_op.specs.Sets.{Stands, IsConsistent, Agrees}
+use Rattle.rep_op.specs.Sets.{HasOperation, IsConsistent, Agrees}
 use Rattle.rep_model.specs.Keep.{keep}
 use Rattle.rep_model.specs.Taking.{AllAgree}
 use Rattle.rep_model.proofs.Joins.{all-moved}
@@ -34,12 +34,12 @@ use Rattle.gw_event.specs.Gateways.{Gateway, new_gateway, with_refused}
 use Rattle.gw_event.specs.Drives.{left_by, more_records}
 use Rattle.gw_event.specs.Together.{halted_all, AreTorn}
 use Rattle.gw_answer.specs.declared.step.Step.{Step}
-use Rattle.gw_world.specs.Field.{Field, new_field, IsAt, IsDeltaAt, changed, failing, AreStepsOf, TogetherAt, After, Run}
+use Rattle.gw_world.specs.Field.{Field, new_field, IsAt, IsDeltaAt, field_changed, failing_gateway, AreStepsOf, TogetherAt, After, Run}
 use Rattle.gw_world.proofs.InRows.{Answers, CallAt, InCalls, CutShort, changed-twice, at-changed, row-moves, row-keeps, torn-row-still}
 use Rattle.gw_world.specs.Steps.{AnswerStep, restarted}
 use Rattle.gw_event.specs.Event.{HaveName, IsConflict, OwnStep, TakeStep, CompactStep, IsWritable}
 use Rattle.gw_world.specs.Steady.{IsKnown, IsSteady}
-use Rattle.gw_world.specs.Whole.{everything, IsHome}
+use Rattle.gw_world.specs.Whole.{everything, IsAtOrigin}
 use Rattle.gw_world.proofs.Alone.{stands-alone, agrees-alone}
 use Rattle.gw_world.proofs.Answering.{answered, all-answered}
 use Rattle.gw_world.proofs.Each.{all-at, all-places, each-all}
@@ -83,22 +83,22 @@ module _ (field : Field) (s : FlushField field) (w : WholeField field) (n i : �
   own-first : First old.config.gateway field.gateways i
   own-first = subst (λ k. First k field.gateways i) (sym (first-number n i field.gateways old at-first at.1)) at-first
 
-  flush-own : (next : Gateway) (made : List (List Op)) → Still old next made ⊎ Stepped old next made → FlushField (changed field i next made)
+  flush-own : (next : Gateway) (made : List (List Op)) → Still old next made ⊎ Stepped old next made → FlushField (field_changed field i next made)
   flush-own next made u = flush-moved field.gateways s n i old at-first at.1 next made u
 
   listed : (k : ℕ) (delta : List Op) → slice_get field.deltas k ≡ Some delta → AllByRecursion (IsHeld field.gateways) delta
   listed k delta there = all-at (λ (D : List Op). AllByRecursion (IsHeld field.gateways) D) field.deltas k delta w.each.lists there
 
-  whole-moved : (next : Gateway) (made : List (List Op)) → AllByRecursion IsWritable made → Still old next made ⊎ Stepped old next made → WholeField (changed field i next made)
+  whole-moved : (next : Gateway) (made : List (List Op)) → AllByRecursion IsWritable made → Still old next made ⊎ Stepped old next made → WholeField (field_changed field i next made)
   whole-moved next made writable (inl u) = whole-still field.gateways i old next field.deltas made at.1 u w
   whole-moved next made writable (inr u) = whole-stepped field.gateways i old next made at.1 own-first (s old.config.gateway i old own-first at.1) u field.deltas writable w
 
   -- it took a delta of the list, or nothing
-  whole-taken : (next : Gateway) (made : List (List Op)) (k : ℕ) (delta : List Op) → slice_get field.deltas k ≡ Some delta → Still old next made ⊎ Fed old delta next made → WholeField (changed field i next made)
+  whole-taken : (next : Gateway) (made : List (List Op)) (k : ℕ) (delta : List Op) → slice_get field.deltas k ≡ Some delta → Still old next made ⊎ Fed old delta next made → WholeField (field_changed field i next made)
   whole-taken next made k delta there (inl u) = whole-still field.gateways i old next field.deltas made at.1 u w
   whole-taken next made k delta there (inr u) = whole-silent field.gateways i old next delta at.1 u.config u.taken field.deltas made (listed k delta there) u.none w
 
-  flush-taken : (next : Gateway) (made : List (List Op)) (k : ℕ) (delta : List Op) → slice_get field.deltas k ≡ Some delta → Still old next made ⊎ Fed old delta next made → FlushField (changed field i next made)
+  flush-taken : (next : Gateway) (made : List (List Op)) (k : ℕ) (delta : List Op) → slice_get field.deltas k ≡ Some delta → Still old next made ⊎ Fed old delta next made → FlushField (field_changed field i next made)
   flush-taken next made k delta there u =
       flush-fed field.gateways s n i old at-first at.1 next made delta (held-known field.gateways n i old at-first at.1 delta (listed k delta there)) u
 
@@ -106,23 +106,23 @@ module _ (field : Field) (s : FlushField field) (w : WholeField field) (n i : �
   back : (next : Gateway) (delta : List Op) (d : OwnDue old.config.gateway old.taken delta) → Fed old delta next [] → Stepped old next (delta ∷ [])
   back next delta d u = record { plan = d.plan; drafted = d.drafted; delta = delta; proper = d.proper; same = d.same; config = u.config; taken = u.taken; one = refl }
 
-  whole-own : (next : Gateway) (delta : List Op) (d : OwnDue old.config.gateway old.taken delta) → Still old next [] ⊎ Fed old delta next [] → WholeField (changed field i next [])
+  whole-own : (next : Gateway) (delta : List Op) (d : OwnDue old.config.gateway old.taken delta) → Still old next [] ⊎ Fed old delta next [] → WholeField (field_changed field i next [])
   whole-own next delta d (inl u) = whole-still field.gateways i old next field.deltas [] at.1 u w
   whole-own next delta d (inr u) = whole-back field.gateways i old next (delta ∷ []) at.1 own-first (s old.config.gateway i old own-first at.1) (back next delta d u) field.deltas w
 
-  flush-again-own : (next : Gateway) (delta : List Op) (d : OwnDue old.config.gateway old.taken delta) → Still old next [] ⊎ Fed old delta next [] → FlushField (changed field i next [])
+  flush-again-own : (next : Gateway) (delta : List Op) (d : OwnDue old.config.gateway old.taken delta) → Still old next [] ⊎ Fed old delta next [] → FlushField (field_changed field i next [])
   flush-again-own next delta d (inl u) = flush-own next [] (inl u)
   flush-again-own next delta d (inr u) = flush-back field.gateways s n i old at-first at.1 next d.plan delta d.drafted d.same u
 
-  one-back : (delta : List Op) → OwnOrListed field.deltas old.config.gateway old.taken delta → (next : Gateway) → Fed old delta next [] → FlushField (changed field i next []) × WholeField (changed field i next [])
+  one-back : (delta : List Op) → OwnOrListed field.deltas old.config.gateway old.taken delta → (next : Gateway) → Fed old delta next [] → FlushField (field_changed field i next []) × WholeField (field_changed field i next [])
   one-back delta (inl d) next u = (flush-again-own next delta d (inr u), whole-own next delta d (inr u))
   one-back delta (inr (k, there)) next u = (flush-taken next [] k delta there (inr u), whole-taken next [] k delta there (inr u))
 
-  pub none-back : (next : Gateway) → Still old next [] → FlushField (changed field i next []) × WholeField (changed field i next [])
+  pub none-back : (next : Gateway) → Still old next [] → FlushField (field_changed field i next []) × WholeField (field_changed field i next [])
   none-back next u = (flush-own next [] (inl u), whole-still field.gateways i old next field.deltas [] at.1 u w)
 
   -- its next write is to fail
-  same-set : (bytes : ℕ) (sync : Bool) → Still old (failing bytes sync old) []
+  same-set : (bytes : ℕ) (sync : Bool) → Still old (failing_gateway bytes sync old) []
   same-set bytes sync = record { config = refl; taken = refl; none = refl }
 
   own-peaceful : (occasion : Occasion) (now : ℕ) (answer : Result Out Refusal) (next : Gateway) (made : List (List Op)) → OwnStep old occasion now answer next made → IsAtPeace answer
@@ -157,18 +157,18 @@ module _ (field : Field) (s : FlushField field) (w : WholeField field) (n i : �
 
 -- it took so many first ones of what it had refused
 some-back : (m : ℕ) (refused : List (List Op)) (field : Field) (s : FlushField field) (w : WholeField field) (n i : ℕ) (old : Gateway) (at : IsAt field n i old) → DueInTurn field.deltas old.config.gateway old.taken refused
-    → (next : Gateway) → next.config ≡ old.config → next.taken ≡ with_refused m old.taken refused → FlushField (changed field i next []) × WholeField (changed field i next [])
+    → (next : Gateway) → next.config ≡ old.config → next.taken ≡ with_refused m old.taken refused → FlushField (field_changed field i next []) × WholeField (field_changed field i next [])
 some-back zero refused field s w n i old at d next config taken = none-back field s w n i old at next (record { config = config; taken = taken; none = refl })
 some-back (suc m) [] field s w n i old at d next config taken = none-back field s w n i old at next (record { config = config; taken = taken; none = refl })
 some-back (suc m) (delta ∷ refused) field s w n i old at d next config taken =
     let mid : Gateway = record old { taken = old.taken ++ delta } in
     let one = one-back field s w n i old at delta d.0 mid (record { config = refl; taken = refl; none = refl }) in
     let more = turn-as-more field.deltas [] old.config.gateway (old.taken ++ delta) refused d.1 in
-    let rest = some-back m refused (changed field i mid []) one.0 one.1 n i mid (at-changed field n i old mid [] at refl) more next config taken in
-    let same : changed (changed field i mid []) i next [] ≡ changed field i next [] = changed-twice field i mid next [] [] in
+    let rest = some-back m refused (field_changed field i mid []) one.0 one.1 n i mid (at-changed field n i old mid [] at refl) more next config taken in
+    let same : field_changed (field_changed field i mid []) i next [] ≡ field_changed field i next [] = changed-twice field i mid next [] [] in
     (subst FlushField same rest.0, subst WholeField same rest.1)
 
-again : (field : Field) (s : FlushField field) (w : WholeField field) (n i : ℕ) (old : Gateway) (at : IsAt field n i old) (kept : ℕ) → DueAs field.deltas old → FlushField (changed field i (restarted kept old) []) × WholeField (changed field i (restarted kept old) [])
+again : (field : Field) (s : FlushField field) (w : WholeField field) (n i : ℕ) (old : Gateway) (at : IsAt field n i old) (kept : ℕ) → DueAs field.deltas old → FlushField (field_changed field i (restarted kept old) []) × WholeField (field_changed field i (restarted kept old) [])
 again field s w n i old at kept d = some-back (more_records old.config.gateway old.drive (left_by kept old.drive)) old.refused field s w n i old at d (restarted kept old) refl refl
 
 -- ---- calls
@@ -228,7 +228,7 @@ row-sound old new number called answers h s w =
 
 -- what each call keeps in a field that is flush and whole, and a failed write keeps, calls with one write keep
 pub row-keeps-sound : (P : Field → Type 0) (number : ℕ) → ((old new : Field) (call : Call) (answer : Result Out Refusal) → CallAt old number call answer new → FlushField old → WholeField old → P old → P new)
-    → ((field : Field) (i : ℕ) (gateway next : Gateway) (behind : List Call) (step : Step) (answer : Result Out Refusal) (more : List Step) → IsAt field number i gateway → AreStepsOf field behind (step ∷ more) → AreTorn gateway step answer more next → FlushField field → WholeField field → P field → P (changed field i next []))
+    → ((field : Field) (i : ℕ) (gateway next : Gateway) (behind : List Call) (step : Step) (answer : Result Out Refusal) (more : List Step) → IsAt field number i gateway → AreStepsOf field behind (step ∷ more) → AreTorn gateway step answer more next → FlushField field → WholeField field → P field → P (field_changed field i next []))
     → (old new : Field) (called : List Call) (answers : Answers) → TogetherAt old number called answers new → FlushField old → WholeField old → P old → P new
 row-keeps-sound P number f g old new called answers h s w p =
     let all = row-keeps (λ (x : Field). FlushField x × WholeField x × P x) number
@@ -290,7 +290,7 @@ after-sound old (Asks number peer) (Node answer) new h s w d = record {
   peaceful = asked-peaceful h.2 h.3 (said answer) h.4 h.7;
 }
 after-sound old (WriteFails number bytes sync) Nothing new h s w d =
-    let next = failing bytes sync h.1 in
+    let next = failing_gateway bytes sync h.1 in
     let u : Still h.1 next [] ⊎ Stepped h.1 next [] = inl (same-set old s w number h.0 h.1 h.2 bytes sync) in record {
       flush = subst FlushField (sym h.3) (flush-own old s w number h.0 h.1 h.2 next [] u);
       whole = subst WholeField (sym h.3) (whole-moved old s w number h.0 h.1 h.2 next [] tt u);
@@ -392,9 +392,9 @@ module _ (field : Field) (w : WholeField field) where
   held op h = All-contains (IsHeld field.gateways) (everything field) op (All-from_recursion (IsHeld field.gateways) (everything field) (each-all (IsHeld field.gateways) field w.each)) h
 
   pub parts-consistent : (part : List Op) → ((op : Op) → Contains part op → Contains (everything field) op) → IsConsistent part
-  parts-consistent part f = all-moved (Stands part) part (λ op h. stands-alone part op h (λ other there named. held-alike field.gateways other op (held other (f other there)) (held op (f op h)) named))
+  parts-consistent part f = all-moved (HasOperation part) part (λ op h. stands-alone part op h (λ other there named. held-alike field.gateways other op (held other (f other there)) (held op (f op h)) named))
 
-  at-home : (op : Op) → IsHeld field.gateways op → IsHome field op
+  at-home : (op : Op) → IsHeld field.gateways op → IsAtOrigin field op
   at-home (OfSession c s k o) h = (h.0, h.1, (first-place_of s.gateway h.0 field.gateways h.2, h.3), h.4)
   at-home (OfPut c p) h = (h.0, h.1, (first-place_of p.origin h.0 field.gateways h.2, h.3), h.4)
   at-home (Ack c origin first last) h = tt
@@ -452,7 +452,7 @@ field-never_together configs events answers field replies client h there inside 
     All-contains IsAtPeace (map said replies) (Err (refusals.Conflict client))
     (All-from_recursion IsAtPeace (map said replies) (All-contains IsPeaceful answers (Row replies) (All-from_recursion IsPeaceful answers (field-sound configs events answers field h).peaceful) there)) inside
 
-pub field-home : (configs : List Config) (events : List Event) (answers : List Answer) (field : Field) (op : Op) → Run (new_field configs) events answers field → Contains (everything field) op → IsHome field op
+pub field-home : (configs : List Config) (events : List Event) (answers : List Answer) (field : Field) (op : Op) → Run (new_field configs) events answers field → Contains (everything field) op → IsAtOrigin field op
 field-home configs events answers field op h there = let w = field-whole configs events answers field h in at-home field w op (held field w op there)
 
 pub field-well_made : (configs : List Config) (events : List Event) (answers : List Answer) (field : Field) (delta : List Op) → Run (new_field configs) events answers field → Contains field.deltas delta → IsDelta delta × IsWritable delta

@@ -27,12 +27,12 @@ use Rattle.gw_world.specs.declared.event.Answer.{Answer}
 use Rattle.gw_world.specs.declared.event.Answer.TheVariants.{Node, Row, Views, Records, Nothing}
 use Rattle.gw_event.specs.Gateways.{Gateway, new_gateway}
 use Rattle.gw_event.specs.Drives.{noted}
-use Rattle.gw_world.specs.Field.{Field, new_field, IsStepOf, AreStepsOf, TogetherAt, After, failing}
+use Rattle.gw_world.specs.Field.{Field, new_field, IsStepOf, AreStepsOf, TogetherAt, After, failing_gateway}
 use Rattle.gw_world.specs.Steps.{restarted}
 use Rattle.gw_event.specs.Event.{NothingHappens, IsTorn, IsMade, OwnStep, TakeStep, CompactStep, StepOf}
 use Rattle.gw_event.specs.Together.{InTurnBy, CanWrite, if_any, put_by, put_by_all, AreTorn}
 use Rattle.gw_event.proofs.Turns.{step_adds}
-use Rattle.gw_world.specs.Whole.{Arranges}
+use Rattle.gw_world.specs.Whole.{ArrangesFailure}
 use Rattle.gw_world.proofs.Each.{set-cases}
 use Rattle.gw_world.proofs.InRows.{Answers, got-before, CallAt, moved-config, fed-config, row-keeps}
 use Rattle.gw_world.proofs.Steadiness.{plan-drafted, own-moves, take-moves}
@@ -149,7 +149,7 @@ compact-due old (Err refusals.Full) new deltas h d = absurd h
 compact-due old (Err refusals.Exhausted) new deltas h d = absurd h
 compact-due old (Err refusals.Memory) new deltas h d = absurd h
 
-failing-due : (bytes : ℕ) (sync : Bool) (old : Gateway) (deltas : List (List Op)) → IsDue deltas old → IsDue deltas (failing bytes sync old)
+failing-due : (bytes : ℕ) (sync : Bool) (old : Gateway) (deltas : List (List Op)) → IsDue deltas old → IsDue deltas (failing_gateway bytes sync old)
 failing-due bytes sync old deltas d = record { runs = d.runs; due = d.due }
 
 -- ---- one event
@@ -256,7 +256,7 @@ after-due old (Take number delta) (Node answer) new h d = call-due old new numbe
 after-due old (AtOnce number calls) (Row answers) new h d = row-due old new number calls (map said answers) h d
 after-due old (Asks number peer) (Node answer) new h d = subst DueField (sym h.8) (due-joined old.gateways old.deltas h.4 d)
 after-due old (WriteFails number bytes sync) Nothing new h d =
-    subst DueField (sym h.3) (due-set old.gateways h.0 (failing bytes sync h.1) old.deltas [] d (due-more old.deltas [] (failing bytes sync h.1) (failing-due bytes sync h.1 old.deltas (d h.0 h.1 h.2.1))))
+    subst DueField (sym h.3) (due-set old.gateways h.0 (failing_gateway bytes sync h.1) old.deltas [] d (due-more old.deltas [] (failing_gateway bytes sync h.1) (failing-due bytes sync h.1 old.deltas (d h.0 h.1 h.2.1))))
 after-due old (Compact number) (Node answer) new h d =
     subst DueField (sym h.5) (due-set old.gateways h.0 h.2 old.deltas [] d (due-more old.deltas [] h.2 (compact-due h.1 (said answer) h.2 old.deltas h.4 (d h.0 h.1 h.3.1))))
 after-due old (Restart number kept) (Records count) new h d =
@@ -386,7 +386,7 @@ row-well old new number called answers h w =
     (λ field i gateway next behind step answer more at is t well. absurd (none-some t.failure (sym (well i gateway at.1).1 ∙ t.planned)))
     old new called answers h w
 
-pub after-well : (old : Field) (event : Event) (answer : Answer) (new : Field) → After old event answer new → ¬ (Arranges event) → AreWell old → AreWell new
+pub after-well : (old : Field) (event : Event) (answer : Answer) (new : Field) → After old event answer new → ¬ (ArrangesFailure event) → AreWell old → AreWell new
 after-well old (Frame number from bytes now) (Node answer) new h never w = call-well old new number (calls.Frame from bytes now) (said answer) h w
 after-well old (Tick number now) (Node answer) new h never w = call-well old new number (calls.Tick now) (said answer) h w
 after-well old (Take number delta) (Node answer) new h never w = call-well old new number (calls.Take delta) (said answer) h w

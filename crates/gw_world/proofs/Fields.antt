@@ -30,7 +30,7 @@ use Rattle.gw_world.specs.declared.world.WorldFault.{WorldFault}
 use Rattle.gw_world.specs.declared.world.WorldFault.TheVariants as stops
 use Rattle.gw_world.specs.Events.{made_of, answered_of}
 use Rattle.gw_world.specs.Whole.{made_of_all}
-use Rattle.gw_world.specs.Field.{Field, new_field, IsAt, Steps, AreStepsOf, TogetherAt, After, Run, shown, gateway_of, failing}
+use Rattle.gw_world.specs.Field.{Field, new_field, IsAt, Steps, AreStepsOf, TogetherAt, After, Run, shown, gateway_of_event, failing_gateway}
 use Rattle.gw_world.specs.Keeping.{IsShown, AreShown}
 use Rattle.gw_world.specs.Places.{place_of}
 use Rattle.gw_world.specs.Steps.{restarted}
@@ -116,14 +116,14 @@ module _ {D : Type 0} {G : Ghosts D} (field : Field) (r : IsReached field) (ks :
     unlisted next is_next = append-nil field.deltas ∙ (listed ∙ sym is_next)
 
     own_reaches : (event : Event) (occasion : Occasion) (now : ℕ) (news : List (State G)) (next : List (List Op)) (answer : Result (Arc Out Global) NodeFault)
-        → ((new : Field) → Steps field (gateway_of event) occasion now (said answer) new → After field event (Node answer) new)
-        → (i : ℕ) → place_in (gateway_of event) 0 ks ≡ Some i
+        → ((new : Field) → Steps field (gateway_of_event event) occasion now (said answer) new → After field event (Node answer) new)
+        → (i : ℕ) → place_in (gateway_of_event event) 0 ks ≡ Some i
         → Moves ks i (λ old new. (g : Gateway) → IsShown g old → OwnAgrees g occasion now → (h : Gateway) × (made : List (List Op)) × OwnStep g occasion now (said answer) h made × IsShown h new) news
         → Join deltas (made_of (said answer)) next → Reaches field event (Node answer) news next
     own_reaches event occasion now news next answer is i place m (writable, is_next) =
         let at = shown_at field.gateways ks i m.old s m.place in
-        let here : IsAt field (gateway_of event) i at.gateway = (place_there (gateway_of event) i place, at.place) in
-        let went = m.goes at.gateway at.shown (own_agrees field r (gateway_of event) i at.gateway here occasion now) in
+        let here : IsAt field (gateway_of_event event) i at.gateway = (place_there (gateway_of_event event) i place, at.place) in
+        let went = m.goes at.gateway at.shown (own_agrees field r (gateway_of_event event) i at.gateway here occasion now) in
         let field_after : Field = record { gateways = set field.gateways i went.0; deltas = field.deltas ++ went.1 } in
         record {
           new = field_after;
@@ -190,9 +190,9 @@ module _ {D : Type 0} {G : Ghosts D} (field : Field) (r : IsReached field) (ks :
     event_reaches (WriteFails n bytes sync) news next Nothing (i, place, (m, is_next)) =
         let at = shown_at field.gateways ks i m.old s m.place in
         record {
-          new = record { gateways = set field.gateways i (failing bytes sync at.gateway); deltas = field.deltas ++ [] };
+          new = record { gateways = set field.gateways i (failing_gateway bytes sync at.gateway); deltas = field.deltas ++ [] };
           after = (i, at.gateway, (place_there n i place, at.place), refl);
-          shown = moved i _ news m (failing bytes sync at.gateway) (m.goes at.gateway at.shown);
+          shown = moved i _ news m (failing_gateway bytes sync at.gateway) (m.goes at.gateway at.shown);
           listed = unlisted next is_next;
         }
     event_reaches (Restart n left) news next (Records count) (i, place, (m, is_next)) =

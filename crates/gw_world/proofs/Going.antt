@@ -6,14 +6,14 @@ use Rattle.rep_op.specs.declared.op.Op.{Op}
 use Rattle.rep_ops.specs.Spelling.{max_octets}
 use Rattle.rep_answer.specs.Answers.{IsAnswer}
 use Rattle.rep_digest.specs.Digests.{digest}
-use Rattle.rep_digest.specs.Spelling.{spelling, IsWithinLimit as IsDigestWithinLimit}
+use Rattle.rep_digest.specs.Spelling.{digest_spelling, IsDigestWithinLimit}
 use Rattle.rep_digest.proofs.Counted.{same_digest}
 use Rattle.rep_answer.proofs.Completing.{same_answer}
 use Rattle.jr_disk.specs.declared.disk.Disk.{Ghosts}
-use Rattle.jr_disk.specs.declared.disk.Plan.TheVariants.{Stop, KeepBack}
+use Rattle.jr_disk.specs.declared.disk.Failure.TheVariants.{Stop, KeepBack}
 use Rattle.jr_disk.specs.Memory.{MemoryState, failing as failing_disk}
-use Rattle.jr_journal.specs.Arranged.{is_quiet}
-use Rattle.jr_journal.specs.Parts.{disk_of}
+use Rattle.jr_journal.specs.Arranged.{misses_failure}
+use Rattle.jr_journal.specs.Parts.{disk_under}
 use Rattle.gw_answer.specs.declared.out.Out.{Out}
 use Rattle.gw_answer.specs.declared.refusal.Refusal.{Refusal}
 use Rattle.gw_answer.specs.declared.refusal.Refusal.TheVariants as refusals
@@ -23,7 +23,7 @@ use Rattle.gw_event.specs.Event.{Event, StepOf, IsWritable}
 use Rattle.gw_event.specs.Gateways.{Gateway}
 use Rattle.gw_node.specs.Keeping.{Keeps}
 use Rattle.gw_node.specs.Parts.{State}
-use Rattle.gw_node.specs.Standing.{fated, CanBeSaid, EventOn}
+use Rattle.gw_node.specs.Standing.{with_failure, CanBeSaid, EventOn}
 use Rattle.gw_world.specs.Events.{answered_of}
 use Rattle.gw_world.specs.Keeping.{IsShown}
 use Rattle.gw_world.specs.Steps.{AnswerStep}
@@ -35,12 +35,12 @@ step_of before next made step answer memory (inl h) = h
 step_of before next made step answer memory (inr h) = absurd (subst IsFed h.0 memory)
 
 module _ {D : Type 0} {G : Ghosts D} where
-  pub goes_on : (old new : State G) (step : Step) (answer : Result Out Refusal) → G.honest → G.starved (disk_of new.journal) ≡ false → IsFed answer
+  pub goes_on : (old new : State G) (step : Step) (answer : Result Out Refusal) → G.honest → G.starved (disk_under new.journal) ≡ false → IsFed answer
       → ((gateway : Gateway) → IsShown gateway old → CanBeSaid gateway old step answer new) → EventOn old step answer new → GoesOn old step answer new
   goes_on old new step answer honest fed memory premise event = λ gateway s agrees.
       let l = event gateway s.stands (premise gateway s) in
       let f = l.foreseen honest fed s.foreseen in
-      let same : fated l.fate gateway ≡ gateway = λ i. record gateway { drive = record gateway.drive { plan = f.0 i } } in
+      let same : with_failure l.fate gateway ≡ gateway = λ i. record gateway { drive = record gateway.drive { plan = f.0 i } } in
       let happened = subst (λ (x : Gateway). Event x step answer l.next l.made) same l.happens in (
         l.next,
         l.made,
@@ -50,7 +50,7 @@ module _ {D : Type 0} {G : Ghosts D} where
 
 -- ---- a failure is arranged
 
-failing_quiet : (bytes : ℕ) (sync : Bool) → IsTrue (is_quiet (Some (Some (if sync then KeepBack else Stop bytes))) false)
+failing_quiet : (bytes : ℕ) (sync : Bool) → IsTrue (misses_failure (Some (Some (if sync then KeepBack else Stop bytes))) false)
 failing_quiet bytes true = refl
 failing_quiet bytes false = refl
 
@@ -67,10 +67,10 @@ fails_next {G} old new bytes sync same_slots same_starved outlook a = λ gateway
     keeps = subst (λ (K : List Op). Keeps gateway.taken K) (sym a.kept) s.stands.keeps;
     slot = a.slot ∙ s.stands.slot;
     halted = a.halted ∙ s.stands.halted;
-    slots = λ honest. ap G.slots a.disk ∙ same_slots (disk_of old.journal) ∙ s.stands.slots honest;
+    slots = λ honest. ap G.slots a.disk ∙ same_slots (disk_under old.journal) ∙ s.stands.slots honest;
   };
-  foreseen = record { plan = ap G.outlook a.disk ∙ outlook (disk_of old.journal); quiet = failing_quiet bytes sync };
-  fed = ap G.starved a.disk ∙ same_starved (disk_of old.journal) ∙ s.fed;
+  foreseen = record { plan = ap G.outlook a.disk ∙ outlook (disk_under old.journal); quiet = failing_quiet bytes sync };
+  fed = ap G.starved a.disk ∙ same_starved (disk_under old.journal) ∙ s.fed;
   lasts = λ honest. let l = s.lasts honest in record { synced = l.synced; none = l.none; images = l.images; begun = l.begun };
 }
 
@@ -91,7 +91,7 @@ ask_taken g k s h l t (Ok out) (within, (is_answer, is_out)) writable =
     )
 ask_taken g k s h l t (Err refusals.Full) long writable =
     let same : digest k.kept ≡ digest g.taken = same_digest g.taken k.kept s.stands.keeps.counts in
-    (λ within. past (length (spelling (digest g.taken))) max_octets (subst (λ d. max_octets < length (spelling d)) same long) within, refl)
+    (λ within. past (length (digest_spelling (digest g.taken))) max_octets (subst (λ d. max_octets < length (digest_spelling d)) same long) within, refl)
 ask_taken g k s h l t (Err (refusals.Frame fault)) answer writable = absurd answer
 ask_taken g k s h l t (Err refusals.Halted) answer writable = absurd answer
 ask_taken g k s h l t (Err (refusals.Disk excuse)) answer writable = absurd answer

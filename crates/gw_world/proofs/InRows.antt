@@ -15,7 +15,7 @@ use Rattle.gw_event.specs.Event.{NothingHappens, OwnStep, TakeStep, StepOf, Even
 use Rattle.gw_event.specs.Together.{InTurnBy, InTurn, CanWrite, put_by_all, halted_all, AreTorn, StopShort, FailsLast, Together}
 use Rattle.gw_world.specs.declared.event.Call.{Call}
 use Rattle.gw_world.specs.declared.event.Call.TheVariants as calls
-use Rattle.gw_world.specs.Field.{Field, IsAt, IsDeltaAt, changed, Steps, IsStepOf, AreStepsOf, AreFed, TogetherAt}
+use Rattle.gw_world.specs.Field.{Field, IsAt, IsDeltaAt, field_changed, Steps, IsStepOf, AreStepsOf, AreFed, TogetherAt}
 use Rattle.gw_world.proofs.Numbers.{First, place_of-first, first-kept, first-place_of, set-there}
 use Rattle.gw_world.proofs.Steadiness.{Still, Stepped, Fed, own-moves, take-moves}
 
@@ -41,20 +41,20 @@ set-set (g ∷ gs) (suc i) one other = ap (λ (xs : List Gateway). g ∷ xs) (se
 
 -- ---- a gateway in its place
 
-pub changed-same : (field : Field) (i : ℕ) (gateway : Gateway) → slice_get field.gateways i ≡ Some gateway → changed field i gateway [] ≡ field
+pub changed-same : (field : Field) (i : ℕ) (gateway : Gateway) → slice_get field.gateways i ≡ Some gateway → field_changed field i gateway [] ≡ field
 changed-same field i gateway e =
     let gateways = set-same field.gateways i gateway e in
     let deltas = append-nil field.deltas in
     λ j. record { gateways = gateways j; deltas = deltas j }
 
-pub changed-twice : (field : Field) (i : ℕ) (one other : Gateway) (first more : List (List Op)) → changed (changed field i one first) i other more ≡ changed field i other (first ++ more)
+pub changed-twice : (field : Field) (i : ℕ) (one other : Gateway) (first more : List (List Op)) → field_changed (field_changed field i one first) i other more ≡ field_changed field i other (first ++ more)
 changed-twice field i one other first more =
     let gateways = set-set field.gateways i one other in
     let deltas = append_assoc field.deltas first more in
     λ j. record { gateways = gateways j; deltas = deltas j }
 
 -- it stays there
-pub at-changed : (field : Field) (number i : ℕ) (gateway next : Gateway) (made : List (List Op)) → IsAt field number i gateway → next.config ≡ gateway.config → IsAt (changed field i next made) number i next
+pub at-changed : (field : Field) (number i : ℕ) (gateway next : Gateway) (made : List (List Op)) → IsAt field number i gateway → next.config ≡ gateway.config → IsAt (field_changed field i next made) number i next
 at-changed field number i gateway next made at config =
     let kept = first-kept number i i field.gateways gateway next gateway at.1 config (place_of-first number i field.gateways at.0) at.1 in
     (first-place_of number i (set field.gateways i next) kept.0, set-there i field.gateways gateway next at.1)
@@ -76,7 +76,7 @@ CallAt old number (calls.Tick now) answer new = Steps old number Clock now answe
 CallAt old number (calls.Take delta) answer new =
     (i : ℕ) × (gateway : Gateway) × (next : Gateway) × (made : List (List Op)) × (ops : List Op)
     × IsAt old number i gateway × IsDeltaAt old delta ops
-    × TakeStep gateway ops answer next made × (new ≡ changed old i next made)
+    × TakeStep gateway ops answer next made × (new ≡ field_changed old i next made)
 
 -- calls one after the other
 abbrev pub InCalls : Field → ℕ → List Call → Answers → Field → Type 0
@@ -103,7 +103,7 @@ pub record CutShort (old : Field) (number : ℕ) (called : List Call) (answers :
   pub at : IsAt mid number i gateway
   pub given : AreStepsOf mid behind (step ∷ steps_behind)
   pub torn : AreTorn gateway step answer steps_behind next
-  pub new_is : new ≡ changed mid i next []
+  pub new_is : new ≡ field_changed mid i next []
 
 -- what each call keeps, all keep
 pub calls-keep : (P : Field → Type 0) (number : ℕ) → ((old new : Field) (call : Call) (answer : Result Out Refusal) → CallAt old number call answer new → P old → P new)
@@ -127,12 +127,12 @@ turn-fed old new [] (answer ∷ answers) made fed h = absurd h
 turn-fed old new (step ∷ called) [] made fed h = absurd h
 
 -- the list only grows
-pub step-later : (field : Field) (i : ℕ) (next : Gateway) (made : List (List Op)) (call : Call) (step : Step) → IsStepOf field call step → IsStepOf (changed field i next made) call step
+pub step-later : (field : Field) (i : ℕ) (next : Gateway) (made : List (List Op)) (call : Call) (step : Step) → IsStepOf field call step → IsStepOf (field_changed field i next made) call step
 step-later field i next made (calls.Frame from bytes now) step h = h
 step-later field i next made (calls.Tick now) step h = h
 step-later field i next made (calls.Take delta) step h = (h.0, (h.1.0, got-before field.deltas made (delta - 1) h.0 h.1.1), h.2)
 
-pub steps-later : (field : Field) (i : ℕ) (next : Gateway) (made : List (List Op)) (called : List Call) (more : List Step) → AreStepsOf field called more → AreStepsOf (changed field i next made) called more
+pub steps-later : (field : Field) (i : ℕ) (next : Gateway) (made : List (List Op)) (called : List Call) (more : List Step) → AreStepsOf field called more → AreStepsOf (field_changed field i next made) called more
 steps-later field i next made [] [] h = tt
 steps-later field i next made (call ∷ called) (step ∷ more) h = (step-later field i next made call step h.0, steps-later field i next made called more h.1)
 steps-later field i next made [] (step ∷ more) h = absurd h
@@ -140,7 +140,7 @@ steps-later field i next made (call ∷ called) [] h = absurd h
 
 -- one step is one call
 pub one-call : (field : Field) (number i : ℕ) (gateway next : Gateway) (call : Call) (step : Step) (answer : Result Out Refusal) (made : List (List Op)) → IsAt field number i gateway → IsStepOf field call step → StepOf gateway step answer next made
-    → CallAt field number call answer (changed field i next made) × (next.config ≡ gateway.config)
+    → CallAt field number call answer (field_changed field i next made) × (next.config ≡ gateway.config)
 one-call field number i gateway next (calls.Frame from bytes now) step answer made at is h =
     let own : OwnStep gateway (Datagram from bytes) now answer next made = subst (λ (s : Step). StepOf gateway s answer next made) is h in
     ((i, gateway, next, made, at, own, refl), moved-config gateway next made (own-moves gateway (Datagram from bytes) now answer next made own))
@@ -152,15 +152,15 @@ one-call field number i gateway next (calls.Take delta) step answer made at is h
     ((i, gateway, next, made, is.0, at, is.1, taken, refl), fed-config gateway next is.0 made (take-moves gateway is.0 answer next made taken))
 
 pub in-calls : (field : Field) (number i : ℕ) (gateway next : Gateway) (called : List Call) (more : List Step) (answers : Answers) (made : List (List Op)) → IsAt field number i gateway → AreStepsOf field called more
-    → InTurnBy StepOf gateway more answers next made → InCalls field number called answers (changed field i next made) × (next.config ≡ gateway.config)
+    → InTurnBy StepOf gateway more answers next made → InCalls field number called answers (field_changed field i next made) × (next.config ≡ gateway.config)
 in-calls field number i gateway next [] [] [] made at is h =
-    let same : changed field i next made ≡ field = (λ j. changed field i (h.same j) (h.none j)) ∙ changed-same field i gateway at.1 in
+    let same : field_changed field i next made ≡ field = (λ j. field_changed field i (h.same j) (h.none j)) ∙ changed-same field i gateway at.1 in
     (same, ap (λ (g : Gateway). g.config) h.same)
 in-calls field number i gateway next (call ∷ called) (step ∷ more) (answer ∷ answers) made at is h =
     let one = one-call field number i gateway h.0 call step answer h.1 at is.0 h.3 in
-    let rest = in-calls (changed field i h.0 h.1) number i h.0 next called more answers h.2 (at-changed field number i gateway h.0 h.1 at one.1) (steps-later field i h.0 h.1 called more is.1) h.4 in
-    let whole : changed (changed field i h.0 h.1) i next h.2 ≡ changed field i next made = changed-twice field i h.0 next h.1 h.2 ∙ ap (λ (m : List (List Op)). changed field i next m) (sym h.5) in
-    ((changed field i h.0 h.1, one.0, subst (λ (f : Field). InCalls (changed field i h.0 h.1) number called answers f) whole rest.0), rest.1 ∙ one.1)
+    let rest = in-calls (field_changed field i h.0 h.1) number i h.0 next called more answers h.2 (at-changed field number i gateway h.0 h.1 at one.1) (steps-later field i h.0 h.1 called more is.1) h.4 in
+    let whole : field_changed (field_changed field i h.0 h.1) i next h.2 ≡ field_changed field i next made = changed-twice field i h.0 next h.1 h.2 ∙ ap (λ (m : List (List Op)). field_changed field i next m) (sym h.5) in
+    ((field_changed field i h.0 h.1, one.0, subst (λ (f : Field). InCalls (field_changed field i h.0 h.1) number called answers f) whole rest.0), rest.1 ∙ one.1)
 in-calls field number i gateway next [] [] (answer ∷ answers) made at is h = absurd h
 in-calls field number i gateway next [] (step ∷ more) answers made at is h = absurd is
 in-calls field number i gateway next (call ∷ called) [] answers made at is h = absurd is
@@ -182,7 +182,7 @@ cut-at field (call ∷ called) (step ∷ front) behind h =
 cut-at field [] (step ∷ front) behind h = absurd h
 
 short-row : (old : Field) (number i : ℕ) (gateway next : Gateway) (called : List Call) (more : List Step) (answers : Answers) (made : List (List Op)) → IsAt old number i gateway → AreStepsOf old called more → AreFed answers
-    → StopShort gateway more answers next made → CutShort old number called answers (changed old i next made)
+    → StopShort gateway more answers next made → CutShort old number called answers (field_changed old i next made)
 short-row old number i gateway next called more answers made at is fed h =
     let c = cut-at old called h.calm (h.call ∷ h.behind) (subst (λ (xs : List Step). AreStepsOf old called xs) h.calls_are is) in
     let fed_first : AreFed h.said = all-left (λ (answer : Result Out Refusal). answer ≡ Err refusals.Memory → ⊥) h.said (h.answer ∷ halted_all h.behind) (subst AreFed h.answers_are fed) in
@@ -196,7 +196,7 @@ short-row old number i gateway next called more answers made at is fed h =
       answer = h.answer;
       calls_are = c.whole;
       answers_are = h.answers_are;
-      mid = changed old i h.mid made;
+      mid = field_changed old i h.mid made;
       led = led.0;
       i = i;
       gateway = h.mid;
@@ -204,11 +204,11 @@ short-row old number i gateway next called more answers made at is fed h =
       at = at-changed old number i gateway h.mid made at led.1;
       given = steps-later old i h.mid made c.rest (h.call ∷ h.behind) c.last;
       torn = h.torn;
-      new_is = ap (λ (m : List (List Op)). changed old i next m) (sym (append-nil made)) ∙ sym (changed-twice old i h.mid next made []);
+      new_is = ap (λ (m : List (List Op)). field_changed old i next m) (sym (append-nil made)) ∙ sym (changed-twice old i h.mid next made []);
     }
 
 row-ways : (old : Field) (number i : ℕ) (gateway next : Gateway) (called : List Call) (more : List Step) (answers : Answers) (made : List (List Op)) → IsAt old number i gateway → AreStepsOf old called more → AreFed answers
-    → Together gateway more answers next made → InCalls old number called answers (changed old i next made) ⊎ CutShort old number called answers (changed old i next made)
+    → Together gateway more answers next made → InCalls old number called answers (field_changed old i next made) ⊎ CutShort old number called answers (field_changed old i next made)
 row-ways old number i gateway next called more answers made at is fed (inl h) = inl (in-calls old number i gateway next called more answers made at is (turn-fed gateway next more answers made fed h.0)).0
 row-ways old number i gateway next called more answers made at is fed (inr h) = inr (short-row old number i gateway next called more answers made at is fed h)
 
@@ -226,7 +226,7 @@ torn-row-still old new step answer behind t = record { config = ap (λ (x : Gate
 
 -- what each call keeps, and a failed write keeps, calls with one write keep
 pub row-keeps : (P : Field → Type 0) (number : ℕ) → ((old new : Field) (call : Call) (answer : Result Out Refusal) → CallAt old number call answer new → P old → P new)
-    → ((field : Field) (i : ℕ) (gateway next : Gateway) (behind : List Call) (step : Step) (answer : Result Out Refusal) (more : List Step) → IsAt field number i gateway → AreStepsOf field behind (step ∷ more) → AreTorn gateway step answer more next → P field → P (changed field i next []))
+    → ((field : Field) (i : ℕ) (gateway next : Gateway) (behind : List Call) (step : Step) (answer : Result Out Refusal) (more : List Step) → IsAt field number i gateway → AreStepsOf field behind (step ∷ more) → AreTorn gateway step answer more next → P field → P (field_changed field i next []))
     → (old new : Field) (called : List Call) (answers : Answers) → TogetherAt old number called answers new → P old → P new
 row-keeps P number f g old new called answers h p = ways (row-moves old new number called answers h)
   where

@@ -14,7 +14,7 @@ use Rattle.gw_world.specs.declared.event.Event.{Event}
 use Rattle.gw_world.specs.declared.event.Event.TheVariants.{Frame, Tick, Take, Together as AtOnce, Answer as Asks, WriteFails, Compact, Restart, Show}
 use Rattle.gw_world.specs.declared.world.WorldFault.{WorldFault}
 use Rattle.gw_world.specs.declared.world.WorldFault.TheVariants as stops
-use Rattle.gw_world.specs.Field.{gateway_of}
+use Rattle.gw_world.specs.Field.{gateway_of_event}
 use Rattle.gw_world.specs.Keeping.{AreShown}
 use Rattle.gw_world.specs.Places.{place_from}
 use Rattle.gw_world.specs.inner.Events.{Moves, AskAt, AskKept, place_in, IsMissing, IsStopped}
@@ -60,7 +60,7 @@ module _ {D : Type 0} {G : Ghosts D} where
   place_shown n i (g ∷ gs) [] s = absurd s
 
   pub missing_stops : (olds : List (State G)) (deltas : List (List Op)) (event : Event) (n : ℕ) (fault : WorldFault) (i : ℕ)
-      → place_in (gateway_of event) 0 olds ≡ Some i → IsMissing olds deltas event n fault → IsStopped olds deltas event n fault
+      → place_in (gateway_of_event event) 0 olds ≡ Some i → IsMissing olds deltas event n fault → IsStopped olds deltas event n fault
   missing_stops olds deltas (Asks g peer) n (stops.NoGateway m) i place (number, none) = (number, λ field s. inr (place_shown peer 0 field.gateways olds s ∙ none))
   missing_stops olds deltas (Asks g peer) n (stops.NoDelta m) i place h = absurd h
   missing_stops olds deltas (Take g delta) n (stops.NoGateway m) i place h = absurd h
@@ -88,7 +88,7 @@ module _ {D : Type 0} {G : Ghosts D} where
   missing_stops olds deltas event n stops.Memory i place h = tt
 
   -- the node that an event is at is not there
-  pub absent_stops : (olds : List (State G)) (deltas : List (List Op)) (event : Event) (n : ℕ) → place_in (gateway_of event) 0 olds ≡ None → IsStopped olds deltas event n (stops.NoGateway n)
+  pub absent_stops : (olds : List (State G)) (deltas : List (List Op)) (event : Event) (n : ℕ) → place_in (gateway_of_event event) 0 olds ≡ None → IsStopped olds deltas event n (stops.NoGateway n)
   absent_stops olds deltas (Asks g peer) n none = (refl, λ field s. inl (place_shown g 0 field.gateways olds s ∙ none))
   absent_stops olds deltas (Frame g from bytes now) n none = (refl, λ field s. place_shown g 0 field.gateways olds s ∙ none)
   absent_stops olds deltas (Tick g now) n none = (refl, λ field s. place_shown g 0 field.gateways olds s ∙ none)

@@ -9,13 +9,13 @@ use Rattle.rep_model.proofs.Joins.{counts-refl, same_trans}
 use Rattle.sn_local.specs.declared.config.Config.{Config}
 use Rattle.sn_local.specs.Locals.{no_local}
 use Rattle.jr_disk.specs.declared.disk.Disk.{Ghosts}
-use Rattle.jr_disk.specs.declared.disk.Plan.{Plan as Failure}
+use Rattle.jr_disk.specs.declared.disk.Failure.{Failure}
 use Rattle.jr_disk.specs.Disk.{Image, image, left_of, after_crash}
 use Rattle.jr_journal.specs.Faults.{is_fresh, fault_of}
 use Rattle.jr_disk.specs.Memory.{MemoryState, empty_disk, crashed_disk}
 use Rattle.jr_journal.specs.Crashes.{recovered}
-use Rattle.jr_journal.specs.Arranged.{is_quiet}
-use Rattle.jr_journal.specs.Parts.{disk_of}
+use Rattle.jr_journal.specs.Arranged.{misses_failure}
+use Rattle.jr_journal.specs.Parts.{disk_under}
 use Rattle.jr_journal.specs.Records.{records, slot_content}
 use Rattle.gw_answer.specs.declared.refusal.Refusal.{Refusal}
 use Rattle.gw_answer.specs.declared.refusal.Refusal.TheVariants as refusals
@@ -24,8 +24,8 @@ use Rattle.gw_event.specs.Gateways.{Gateway}
 use Rattle.gw_node.specs.Keeping.{Keeps}
 use Rattle.gw_node.specs.Opening.{IsStarted, GoesOnIn, IsOpenFault, IsDiskFault}
 use Rattle.gw_node.specs.Parts.{State}
-use Rattle.gw_node.specs.Standing.{Stands}
-use Rattle.gw_node.specs.Taking.{IsBetween, IsWhole, StandsFor, HasTaken}
+use Rattle.gw_node.specs.Standing.{Represents}
+use Rattle.gw_node.specs.Taking.{IsBetween, IsWhole, RecoversTo, HasTaken}
 use Rattle.gw_node.proofs.Standing.{keeps-read, recovered_synced, from_taken}
 use Rattle.gw_node.proofs.Started.{wants_memory}
 use Rattle.gw_node.proofs.Taken.{as_taken}
@@ -51,7 +51,7 @@ none_roomy zero = refl
 none_roomy (suc k) = refl
 
 -- it stands for nothing
-stands_empty : (gateway : ℕ) (i : Image) → i ≡ record { first = []; second = [] } → StandsFor gateway [] [] i
+stands_empty : (gateway : ℕ) (i : Image) → i ≡ record { first = []; second = [] } → RecoversTo gateway [] [] i
 stands_empty gateway i empty =
     let none : [] ≡ records gateway i = sym (ap (λ (j : Image). records gateway j) empty ∙ no_records gateway) in
     record {
@@ -79,18 +79,18 @@ module _ {D : Type 0} {G : Ghosts D} where
     pub honest : G.honest
     pub starts : IsStarted config new
     pub keeps : Keeps (all_of (records config.gateway i)) new.kept
-    pub durable : (S : List Op) → StandsFor config.gateway S [] i → HasTaken S [] new
+    pub durable : (S : List Op) → RecoversTo config.gateway S [] i → HasTaken S [] new
     pub place : GoesOnIn new config.gateway i
-    pub known : G.slots (disk_of new.journal) ≡ recovered config.gateway i
-    pub planned : G.outlook (disk_of new.journal) ≡ Some plan
-    pub fed : G.starved (disk_of new.journal) ≡ false
+    pub known : G.slots (disk_under new.journal) ≡ recovered config.gateway i
+    pub planned : G.outlook (disk_under new.journal) ≡ Some plan
+    pub fed : G.starved (disk_under new.journal) ≡ false
 
   -- it stands for the gateway that has taken what the image stands for
-  pub opened_shown : (config : Config) (i : Image) (plan : Option Failure) (S : List Op) (new : State G) → IsTrue (is_quiet (Some plan) false) → StandsFor config.gateway S [] i → WasOpened config i plan new
+  pub opened_shown : (config : Config) (i : Image) (plan : Option Failure) (S : List Op) (new : State G) → IsTrue (misses_failure (Some plan) false) → RecoversTo config.gateway S [] i → WasOpened config i plan new
       → IsShown (started config S plan i) new
   opened_shown config i plan S new quiet there h =
       let J = all_of (records config.gateway i) in
-      let stands : Stands (started config S plan i) new = record {
+      let stands : Represents (started config S plan i) new = record {
         configured = h.starts.configured;
         numbered = h.starts.gateway;
         bound = h.starts.local;
@@ -113,17 +113,17 @@ module _ {D : Type 0} {G : Ghosts D} where
   -- ---- a restart
 
   -- what is left of its disk
-  found_by : (gateway : Gateway) (old : State G) (left : ℕ) (i : Image) → G.honest → IsShown gateway old → i ≡ after_crash left left (G.slots (disk_of old.journal)) → i ≡ left_by left gateway.drive
+  found_by : (gateway : Gateway) (old : State G) (left : ℕ) (i : Image) → G.honest → IsShown gateway old → i ≡ after_crash left left (G.slots (disk_under old.journal)) → i ≡ left_by left gateway.drive
   found_by gateway old left i honest s found = found ∙ (λ j. after_crash left left (s.stands.slots honest j))
 
-  left_stands : (gateway : Gateway) (old : State G) (left : ℕ) (config : Config) (i : Image) → G.honest → IsShown gateway old → config ≡ old.config → i ≡ after_crash left left (G.slots (disk_of old.journal))
-      → StandsFor config.gateway (restarted left gateway).taken [] i
+  left_stands : (gateway : Gateway) (old : State G) (left : ℕ) (config : Config) (i : Image) → G.honest → IsShown gateway old → config ≡ old.config → i ≡ after_crash left left (G.slots (disk_under old.journal))
+      → RecoversTo config.gateway (restarted left gateway).taken [] i
   left_stands gateway old left config i honest s same found =
-      subst (λ (c : Config). StandsFor c.gateway (restarted left gateway).taken [] i) (sym (same ∙ s.stands.configured))
-      (subst (λ (j : Image). StandsFor gateway.config.gateway (restarted left gateway).taken [] j) (sym (found_by gateway old left i honest s found)) ((s.lasts honest).images left left))
+      subst (λ (c : Config). RecoversTo c.gateway (restarted left gateway).taken [] i) (sym (same ∙ s.stands.configured))
+      (subst (λ (j : Image). RecoversTo gateway.config.gateway (restarted left gateway).taken [] j) (sym (found_by gateway old left i honest s found)) ((s.lasts honest).images left left))
 
   pub restarted_shown : (gateway : Gateway) (old new : State G) (left : ℕ) (config : Config) (i : Image) → IsShown gateway old → config ≡ old.config
-      → i ≡ after_crash left left (G.slots (disk_of old.journal)) → WasOpened config i gateway.drive.plan new → IsShown (restarted left gateway) new
+      → i ≡ after_crash left left (G.slots (disk_under old.journal)) → WasOpened config i gateway.drive.plan new → IsShown (restarted left gateway) new
   restarted_shown gateway old new left config i s same found h =
       let T = (restarted left gateway).taken in
       let shown = opened_shown config i gateway.drive.plan T new s.foreseen.quiet (left_stands gateway old left config i h.honest s same found) h in
@@ -133,21 +133,21 @@ module _ {D : Type 0} {G : Ghosts D} where
 
   -- as many records are read as the gateway says
   pub records_found : (gateway : Gateway) (old : State G) (left : ℕ) (config : Config) (i : Image) → G.honest → IsShown gateway old → config ≡ old.config
-      → i ≡ after_crash left left (G.slots (disk_of old.journal)) → length (records config.gateway i) ≡ records_left left gateway
+      → i ≡ after_crash left left (G.slots (disk_under old.journal)) → length (records config.gateway i) ≡ records_left left gateway
   records_found gateway old left config i honest s same found =
       λ j. length (records ((same ∙ s.stands.configured) j).gateway (found_by gateway old left i honest s found j))
 
-  pub begun_left : (old : State G) (left : ℕ) (i : Image) → G.honest → IsStood old → i ≡ after_crash left left (G.slots (disk_of old.journal)) → is_fresh i ≡ false
+  pub begun_left : (old : State G) (left : ℕ) (i : Image) → G.honest → IsStood old → i ≡ after_crash left left (G.slots (disk_under old.journal)) → is_fresh i ≡ false
   begun_left old left i honest (gateway, s) found = ap is_fresh (found_by gateway old left i honest s found) ∙ (s.lasts honest).begun left left
 
-  pub quiet_left : (old : State G) (outlook : Option (Option Failure)) (fresh : Bool) → IsStood old → outlook ≡ G.outlook (disk_of old.journal) → fresh ≡ false → IsTrue (is_quiet outlook fresh)
+  pub quiet_left : (old : State G) (outlook : Option (Option Failure)) (fresh : Bool) → IsStood old → outlook ≡ G.outlook (disk_under old.journal) → fresh ≡ false → IsTrue (misses_failure outlook fresh)
   quiet_left old outlook fresh (gateway, s) same begun =
-      subst (λ (o : Option (Option Failure)). IsTrue (is_quiet o fresh)) (sym (same ∙ s.foreseen.plan))
-      (subst (λ (b : Bool). IsTrue (is_quiet (Some gateway.drive.plan) b)) (sym begun) s.foreseen.quiet)
+      subst (λ (o : Option (Option Failure)). IsTrue (misses_failure o fresh)) (sym (same ∙ s.foreseen.plan))
+      (subst (λ (b : Bool). IsTrue (misses_failure (Some gateway.drive.plan) b)) (sym begun) s.foreseen.quiet)
 
   -- nothing but want of memory refuses the opening
   pub only_memory : (old : State G) (left : ℕ) (config : Config) (i : Image) (refusal : Refusal) → G.honest → IsStood old → config ≡ old.config
-      → i ≡ after_crash left left (G.slots (disk_of old.journal)) → IsOpenFault config.gateway i refusal → (IsDiskFault refusal → ⊥) → refusal ≡ refusals.Memory
+      → i ≡ after_crash left left (G.slots (disk_under old.journal)) → IsOpenFault config.gateway i refusal → (IsDiskFault refusal → ⊥) → refusal ≡ refusals.Memory
   only_memory old left config i refusal honest (gateway, s) same found why disk =
       wants_memory config.gateway (restarted left gateway).taken [] i refusal (left_stands gateway old left config i honest s same found) why disk
 
@@ -157,5 +157,5 @@ pub crash_left : (left : ℕ) (d : MemoryState) → image (crashed_disk left d).
 crash_left left d = λ j. record { first = append-nil (left_of left d.slots.first) j; second = append-nil (left_of left d.slots.second) j }
 
 -- on an empty disk nothing is arranged
-pub unplanned : (d : MemoryState) (fresh : Bool) → d ≡ empty_disk → IsTrue (is_quiet (Some d.plan) fresh)
-unplanned d fresh e = subst (λ (x : MemoryState). IsTrue (is_quiet (Some x.plan) fresh)) (sym e) refl
+pub unplanned : (d : MemoryState) (fresh : Bool) → d ≡ empty_disk → IsTrue (misses_failure (Some d.plan) fresh)
+unplanned d fresh e = subst (λ (x : MemoryState). IsTrue (misses_failure (Some x.plan) fresh)) (sym e) refl

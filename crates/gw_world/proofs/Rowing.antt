@@ -9,8 +9,8 @@ use Rattle.rep_model.proofs.Joins.{all-left, all-right}
 use Rattle.sn_plan.specs.declared.plan.Plan.{Plan}
 use Rattle.sn_plan.proofs.Lists.{all-append}
 use Rattle.jr_disk.specs.declared.disk.Disk.{Ghosts}
-use Rattle.jr_disk.specs.declared.disk.Plan.{Plan as Failure}
-use Rattle.jr_journal.specs.Parts.{disk_of}
+use Rattle.jr_disk.specs.declared.disk.Failure.{Failure}
+use Rattle.jr_journal.specs.Parts.{disk_under}
 use Rattle.gw_answer.specs.declared.out.Out.{Out}
 use Rattle.gw_answer.specs.declared.refusal.Refusal.{Refusal}
 use Rattle.gw_answer.specs.declared.refusal.Refusal.TheVariants as refusals
@@ -22,7 +22,7 @@ use Rattle.gw_event.specs.Event.{NothingHappens, IsTorn, IsMade, OwnStep, TakeSt
 use Rattle.gw_event.specs.Together.{InTurnBy, InTurn, CanWrite, if_any, put_by, put_by_all, halted_all, StopShort, FailsLast, Together}
 use Rattle.gw_event.proofs.Turns.{turn_append}
 use Rattle.gw_node.specs.Parts.{State}
-use Rattle.gw_node.specs.Standing.{fated, CanBeSaid, CanAllBeSaid, EventsOn}
+use Rattle.gw_node.specs.Standing.{with_failure, CanBeSaid, CanAllBeSaid, EventsOn}
 use Rattle.gw_world.specs.Field.{AreFed}
 use Rattle.gw_world.specs.Keeping.{IsShown}
 use Rattle.gw_world.specs.inner.Events.{IsFed, IsNoFailure, AgreeAlong, RowLeads, RowDone, GoesTogether}
@@ -230,12 +230,12 @@ module _ {D : Type 0} {G : Ghosts D} where
   all-said gateway old (step ∷ []) (answer ∷ answers) new can = one-said gateway old step answer new can.0
 
   -- what a row of the node does
-  goes-row : (old new : State G) (called : List Step) (answers : Answers) → G.honest → G.starved (disk_of new.journal) ≡ false → AllByRecursion CanWrite called → EventsOn old called answers new
+  goes-row : (old new : State G) (called : List Step) (answers : Answers) → G.honest → G.starved (disk_under new.journal) ≡ false → AllByRecursion CanWrite called → EventsOn old called answers new
       → (gateway : Gateway) → IsShown gateway old → AgreeAlong gateway called → (next : Gateway) × (made : List (List Op)) × Together gateway called answers next made × IsShown next new
   goes-row old new called answers honest fed can event gateway s along =
       let l = event gateway s.stands (all-said gateway old called answers new can) in
       let f = l.foreseen honest fed s.foreseen in
-      let same : fated l.fate gateway ≡ gateway = λ i. record gateway { drive = record gateway.drive { plan = f.0 i } } in (
+      let same : with_failure l.fate gateway ≡ gateway = λ i. record gateway { drive = record gateway.drive { plan = f.0 i } } in (
         l.next,
         l.made,
         subst (λ (x : Gateway). Together x called answers l.next l.made) same l.happens,
@@ -289,7 +289,7 @@ module _ {D : Type 0} {G : Ghosts D} where
     leads-next mid next first more fed_before s (inl went) together turn go along = leads-on mid next first more fed_before s went together turn go along
     leads-next mid next first more fed_before s (inr size) together turn go along = leads-all mid next first more fed_before s size together turn go
 
-    leads-row : G.honest → G.starved (disk_of new.journal) ≡ false → EventsOn old part replies new → NoneFailed replies ⊎ (length (before ++ replies) ≡ length called) → length before < length called
+    leads-row : G.honest → G.starved (disk_under new.journal) ≡ false → EventsOn old part replies new → NoneFailed replies ⊎ (length (before ++ replies) ≡ length called) → length before < length called
         → RowLeads gateway called before old → RowLeads gateway called (before ++ replies) new
     leads-row honest unstarved event ways less lead = on lead.4
       where
@@ -299,7 +299,7 @@ module _ {D : Type 0} {G : Ghosts D} where
             leads-next lead.0 went.0 lead.1 went.1 lead.2 went.3 ways went.2 turn go along
         on (inr (together, size)) = absurd (omega (arith, less, size))
 
-  pub row-done : (old new : State G) (called : List Step) (before replies : Answers) → G.honest → G.starved (disk_of new.journal) ≡ false → AllByRecursion CanWrite called → AllByRecursion IsFed replies
+  pub row-done : (old new : State G) (called : List Step) (before replies : Answers) → G.honest → G.starved (disk_under new.journal) ≡ false → AllByRecursion CanWrite called → AllByRecursion IsFed replies
       → EventsOn old (take (length replies) (drop (length before) called)) replies new → NoneFailed replies ⊎ (length (before ++ replies) ≡ length called) → length before < length called → RowDone old called before (before ++ replies) new
   row-done old new called before replies honest unstarved can fed event ways less =
       λ gateway lead. leads-row old new called before replies can (fed-not replies fed) gateway honest unstarved event ways less lead
@@ -369,7 +369,7 @@ module _ {D : Type 0} {G : Ghosts D} {X Y : Type 0} (value : X → Step) (heard 
       let few = most-told t in
       inr (omega (arith, sizes, first, third, few, all))
 
-  pub row-of-node : Told → G.honest → G.starved (disk_of new.journal) ≡ false → AllByRecursion CanWrite (map value steps) → AllByRecursion IsFed replies
+  pub row-of-node : Told → G.honest → G.starved (disk_under new.journal) ≡ false → AllByRecursion CanWrite (map value steps) → AllByRecursion IsFed replies
       → EventsOn old (take (length replies) (map value (drop (length before) steps))) replies new → NoneFailed replies ⊎ (length steps ≤ length after)
       → RowDone old (map value steps) (map heard before) (map heard after) new
   row-of-node t honest unstarved can fed event ways =
@@ -420,7 +420,7 @@ module _ {D : Type 0} {G : Ghosts D} {X Y : Type 0} (value : X → Step) (heard 
     less = subst (λ (n : ℕ). n < length steps) h.front h.less;
   }
 
-  pub heard-row : Heard → G.honest → G.starved (disk_of new.journal) ≡ false → AllByRecursion CanWrite (map value steps) → AllByRecursion IsFed replies
+  pub heard-row : Heard → G.honest → G.starved (disk_under new.journal) ≡ false → AllByRecursion CanWrite (map value steps) → AllByRecursion IsFed replies
       → EventsOn old (take (length replies) (map value part)) replies new → NoneFailed replies ⊎ (length steps ≤ b)
       → RowDone old (map value steps) (map heard before) (map heard after) new
   heard-row h honest unstarved can fed event ways =

@@ -16,7 +16,7 @@ use Rattle.sn_local.specs.declared.config.Config.{Config}
 use Rattle.sn_plan.specs.declared.plan.Plan.{Plan}
 use Rattle.sn_local.specs.Seen.{seen_of}
 use Rattle.sn_plan.specs.Own.{IsOfDraft}
-use Rattle.sn_plan.specs.Flush.{IsFlush, AreFlush}
+use Rattle.sn_plan.specs.Flush.{IsFlush, HaveNoGap}
 use Rattle.step_laws.proofs.Drafting.{step-drafted, tick-drafted}
 use Rattle.row_laws.proofs.Stepping.{step-fits, step-flush, step-new_operation, step-new_put, step-new_retain}
 use Rattle.row_laws.proofs.Flushness.{flush-start, flush-taken}
@@ -189,17 +189,17 @@ own-told old occasion now (Err refusals.Memory) new made h = absurd h
 
 -- the first gateway of each number is flush
 abbrev pub AreAllFlush : List Gateway → Type 0
-AreAllFlush gateways = (n j : ℕ) (gateway : Gateway) → First n gateways j → slice_get gateways j ≡ Some gateway → AreFlush n gateway.taken
+AreAllFlush gateways = (n j : ℕ) (gateway : Gateway) → First n gateways j → slice_get gateways j ≡ Some gateway → HaveNoGap n gateway.taken
 
 module _ (gs : List Gateway) (s : AreAllFlush gs) (n i : ℕ) (old : Gateway) (f : First n gs i) (is : slice_get gs i ≡ Some old) where
   -- one gateway became another
-  updated : (next : Gateway) → next.config ≡ old.config → AreFlush n next.taken → AreAllFlush (set gs i next)
+  updated : (next : Gateway) → next.config ≡ old.config → HaveNoGap n next.taken → AreAllFlush (set gs i next)
   updated next config flush m j gateway h e = elim (first-set n m i j gs old next gateway f is config h e) [
     | inl own ↦ λ c. subst (λ k. IsFlush k c gateway.taken) (sym own.0) (subst (λ (x : Gateway). IsFlush n c x.taken) (sym own.1) (flush c))
     | inr other ↦ s m j gateway other.1 other.2
   ]
 
-  flush-before : AreFlush n old.taken
+  flush-before : HaveNoGap n old.taken
   flush-before = s n i old f is
 
   flush-still : (next : Gateway) (made : List (List Op)) → Still old next made → AreAllFlush (set gs i next)
@@ -237,7 +237,7 @@ start-flush configs n j gateway f e c = empty (slice_get configs j) (sym (slice_
 some_none : {X : Type 0} (o : Option X) → is_some o ≡ true → o ≡ None → ⊥
 some_none o h e = true≢false (sym h ∙ ap is_some e)
 
-module _ (gateway : Gateway) (plan : Plan) (p : IsOfDraft gateway.config.gateway (seen_of gateway.taken) plan) (delta : List Op) (same : Same delta plan.ops) (flush : AreFlush gateway.config.gateway gateway.taken) where
+module _ (gateway : Gateway) (plan : Plan) (p : IsOfDraft gateway.config.gateway (seen_of gateway.taken) plan) (delta : List Op) (same : Same delta plan.ops) (flush : HaveNoGap gateway.config.gateway gateway.taken) where
   -- an operation of the plan has the name of none that was taken
   pub names-apart : (old new : Op) → Contains gateway.taken old → Contains delta new → HaveName old new → ⊥
   names-apart (OfSession c s i o) (OfSession d t j q) before after named =

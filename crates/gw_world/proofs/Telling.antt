@@ -26,12 +26,12 @@ use Rattle.gw_event.specs.Occasions.{Occasion, Datagram, Clock}
 use Rattle.gw_event.specs.Gateways.{Gateway}
 use Rattle.gw_answer.specs.declared.step.Step.{Step}
 use Rattle.gw_event.specs.Together.{halted_all}
-use Rattle.gw_world.specs.Field.{Field, new_field, IsAt, changed, failing, TogetherAt, After, Run, peer_of}
+use Rattle.gw_world.specs.Field.{Field, new_field, IsAt, field_changed, failing_gateway, TogetherAt, After, Run, peer_of}
 use Rattle.gw_world.proofs.InRows.{Answers, CallAt, InCalls, CutShort, row-moves, torn-row-still}
 use Rattle.gw_world.specs.Steps.{AnswerStep, restarted}
 use Rattle.gw_event.specs.Event.{OwnStep, TakeStep, CompactStep}
 use Rattle.gw_world.specs.Events.{made_of, answered_of}
-use Rattle.gw_world.specs.Whole.{everything, number_of, AreMadeOnce, made_by, MayMake, Arranges, NoneFails, told, brought_by, brought, made_of_all, MakesNone}
+use Rattle.gw_world.specs.Whole.{everything, maker_of, AreMadeOnce, made_by, MayMake, ArrangesFailure, NoneFails, all_made, brought_by, brought, made_of_all, MakesNone}
 use Rattle.gw_world.proofs.Alone.{delta-place, contains_at}
 use Rattle.gw_world.proofs.Answering.{answered, answer-told, all-answered}
 use Rattle.gw_world.proofs.Consistency.{FlushField, WholeField, call-sound, after-sound, start-taken, start-whole}
@@ -43,20 +43,20 @@ use Rattle.gw_world.proofs.Whole.{AreApart, Made, made-kept, made-stepped}
 
 -- a name was told of as made
 abbrev pub IsTold : List (List Op) → Op → Type 0
-IsTold ts op = IfSome (number_of op) (λ number. Contains (all_of ts) op)
+IsTold ts op = IfSome (maker_of op) (λ number. Contains (all_of ts) op)
 
 -- no delta that was made has a name of another; and where no failure is arranged (W) all names of the field were told of
 pub record Telling (W : Type 0) (field : Field) (ts : List (List Op)) : Type 0 where
   pub once : Made field.gateways ts
   pub all : W → EachOf (IsTold ts) field.gateways field.deltas
 
-if_some : (op : Op) (P Q : Op → Type 0) → (P op → Q op) → IfSome (number_of op) (λ number. P op) → IfSome (number_of op) (λ number. Q op)
+if_some : (op : Op) (P Q : Op → Type 0) → (P op → Q op) → IfSome (maker_of op) (λ number. P op) → IfSome (maker_of op) (λ number. Q op)
 if_some (OfSession c s k o) P Q f h = f h
 if_some (OfPut c p) P Q f h = f h
 if_some (Ack c origin first last) P Q f h = tt
 if_some (OfRetain topic kept) P Q f h = f h
 
-always : (op : Op) (P : Op → Type 0) → P op → IfSome (number_of op) (λ number. P op)
+always : (op : Op) (P : Op → Type 0) → P op → IfSome (maker_of op) (λ number. P op)
 always (OfSession c s k o) P h = h
 always (OfPut c p) P h = h
 always (Ack c origin first last) P h = tt
@@ -76,26 +76,26 @@ module _ (W : Type 0) (field : Field) (ts : List (List Op)) (t : Telling W field
   before : W → EachOf (IsTold (ts ++ made)) field.gateways field.deltas
   before q = each-weaken (IsTold ts) (IsTold (ts ++ made)) (told-before ts made) field.gateways field.deltas (t.all q)
 
-  telling-quiet : (more : List Op) → next.config ≡ old.config → next.taken ≡ old.taken ++ more → (W → AllByRecursion (IsTold ts) more) → made ≡ [] → Telling W (changed field i next made) (ts ++ made)
+  telling-quiet : (more : List Op) → next.config ≡ old.config → next.taken ≡ old.taken ++ more → (W → AllByRecursion (IsTold ts) more) → made ≡ [] → Telling W (field_changed field i next made) (ts ++ made)
   telling-quiet more config taken news none =
-      subst (λ m. Telling W (changed field i next m) (ts ++ m)) (sym none)
-      (subst (λ T. Telling W (changed field i next []) T) (sym (append-nil ts)) (record {
+      subst (λ m. Telling W (field_changed field i next m) (ts ++ m)) (sym none)
+      (subst (λ T. Telling W (field_changed field i next []) T) (sym (append-nil ts)) (record {
         once = made-kept field.gateways i old next more is config taken ts t.once;
         all = λ q. each-grown (IsTold ts) field.gateways field.deltas i old next more [] is taken (news q) tt (t.all q);
       }))
 
-  telling-still : Still old next made → Telling W (changed field i next made) (ts ++ made)
+  telling-still : Still old next made → Telling W (field_changed field i next made) (ts ++ made)
   telling-still u = telling-quiet [] u.config (u.taken ∙ sym (append-nil old.taken)) (λ _. tt) u.none
 
   -- it took what nobody had been told of, but for a failure
-  telling-back : (more : List Op) → (W → more ≡ []) → Fed old more next made → Telling W (changed field i next made) (ts ++ made)
+  telling-back : (more : List Op) → (W → more ≡ []) → Fed old more next made → Telling W (field_changed field i next made) (ts ++ made)
   telling-back more none u = telling-quiet more u.config u.taken (λ q. subst (λ (R : List Op). AllByRecursion (IsTold ts) R) (sym (none q)) tt) u.none
 
   module _ (n : ℕ) (s : FlushField field) (f : First n field.gateways i) where
     own : First old.config.gateway field.gateways i
     own = subst (λ k. First k field.gateways i) (sym (first-number n i field.gateways old f is)) f
 
-    telling-stepped : Stepped old next made → Telling W (changed field i next made) (ts ++ made)
+    telling-stepped : Stepped old next made → Telling W (field_changed field i next made) (ts ++ made)
     telling-stepped u =
         let news : AllByRecursion (IsTold (ts ++ made)) u.delta = all-moved (IsTold (ts ++ made)) u.delta
         (λ op h. told-now ts made op (subst (λ m. Contains (all_of m) op) (sym u.one) (subst (λ T. Contains T op) (sym (append-nil u.delta)) h))) in record {
@@ -103,15 +103,15 @@ module _ (W : Type 0) (field : Field) (ts : List (List Op)) (t : Telling W field
           all = λ q. each-grown (IsTold (ts ++ made)) field.gateways field.deltas i old next u.delta made is u.taken news (subst (λ m. AllOf (IsTold (ts ++ made)) m) (sym u.one) (news, tt)) (before q);
         }
 
-    telling-moved : Still old next made ⊎ Stepped old next made → Telling W (changed field i next made) (ts ++ made)
+    telling-moved : Still old next made ⊎ Stepped old next made → Telling W (field_changed field i next made) (ts ++ made)
     telling-moved (inl u) = telling-still u
     telling-moved (inr u) = telling-stepped u
 
 -- a step of a gateway's own tells of what it made
 telling-own : (W : Type 0) (field : Field) (ts : List (List Op)) (t : Telling W field ts) (n i : ℕ) (old next : Gateway) (made : List (List Op)) → FlushField field → IsAt field n i old
-    → (occasion : Occasion) (now : ℕ) (answer : Result Out Refusal) → OwnStep old occasion now answer next made → Telling W (changed field i next made) (ts ++ made_of answer)
+    → (occasion : Occasion) (now : ℕ) (answer : Result Out Refusal) → OwnStep old occasion now answer next made → Telling W (field_changed field i next made) (ts ++ made_of answer)
 telling-own W field ts t n i old next made s at occasion now answer h =
-    subst (λ m. Telling W (changed field i next made) (ts ++ m)) (own-told old occasion now answer next made h)
+    subst (λ m. Telling W (field_changed field i next made) (ts ++ m)) (own-told old occasion now answer next made h)
     (telling-moved W field ts t i old next made at.1 n s (place_of-first n i field.gateways at.0) (own-moves old occasion now answer next made h))
 
 -- a delivery tells of nothing that was made
@@ -132,7 +132,7 @@ compact-told old next (Ok out) h = (ap (λ (o : Out). made_of (Ok o)) h.1, ap (�
 compact-told old next (Err fault) h = (refl, refl)
 
 telling-fed : (W : Type 0) (field : Field) (ts : List (List Op)) (t : Telling W field ts) (i : ℕ) (old next : Gateway) (made : List (List Op)) → slice_get field.gateways i ≡ Some old
-    → (k : ℕ) (delta : List Op) → slice_get field.deltas k ≡ Some delta → Still old next made ⊎ Fed old delta next made → Telling W (changed field i next made) (ts ++ made)
+    → (k : ℕ) (delta : List Op) → slice_get field.deltas k ≡ Some delta → Still old next made ⊎ Fed old delta next made → Telling W (field_changed field i next made) (ts ++ made)
 telling-fed W field ts t i old next made is k delta there (inl u) = telling-still W field ts t i old next made is u
 telling-fed W field ts t i old next made is k delta there (inr u) =
     telling-quiet W field ts t i old next made is delta u.config u.taken
@@ -159,7 +159,7 @@ call-telling W old new number (calls.Tick now) answer ts h s t =
 call-telling W old new number (calls.Take delta) answer ts h s t =
     let none = take-told h.1 h.2 h.4 answer h.3 h.7 in
     subst (λ (x : Field). Telling W x (ts ++ made_of answer)) (sym h.8)
-    (subst (λ m. Telling W (changed old h.0 h.2 h.3) (ts ++ m)) (none.0 ∙ sym none.1) (telling-fed W old ts t h.0 h.1 h.2 h.3 h.5.1 (delta - 1) h.4 h.6.1 (take-moves h.1 h.4 answer h.2 h.3 h.7)))
+    (subst (λ m. Telling W (field_changed old h.0 h.2 h.3) (ts ++ m)) (none.0 ∙ sym none.1) (telling-fed W old ts t h.0 h.1 h.2 h.3 h.5.1 (delta - 1) h.4 h.6.1 (take-moves h.1 h.4 answer h.2 h.3 h.7)))
 
 calls-telling : (W : Type 0) (old new : Field) (number : ℕ) (called : List Call) (answers : Answers) (ts : List (List Op)) → InCalls old number called answers new → FlushField old → WholeField old → Telling W old ts → Telling W new (ts ++ made_of_all answers)
 calls-telling W old new number [] [] ts h s w t = subst (λ (x : Field). Telling W x (ts ++ [])) (sym h) (subst (Telling W old) (sym (append-nil ts)) t)
@@ -186,7 +186,7 @@ short-telling W old new number called answers ts c s w t =
     let first = calls-telling W old c.mid number c.calm c.said ts c.led s w t in
     let last = telling-still W c.mid (ts ++ made_of_all c.said) first c.i c.gateway c.next [] c.at.1 (torn-row-still c.gateway c.next c.step c.answer c.steps_behind c.torn) in
     let same : (ts ++ made_of_all c.said) ++ [] ≡ ts ++ made_of_all answers = append-nil (ts ++ made_of_all c.said) ∙ ap (λ (ds : List (List Op)). ts ++ ds) (sym (short-told old new number called answers c)) in
-    subst (λ (x : Field). Telling W x (ts ++ made_of_all answers)) (sym c.new_is) (subst (Telling W (changed c.mid c.i c.next [])) same last)
+    subst (λ (x : Field). Telling W x (ts ++ made_of_all answers)) (sym c.new_is) (subst (Telling W (field_changed c.mid c.i c.next [])) same last)
 
 row-telling : (W : Type 0) (old new : Field) (number : ℕ) (called : List Call) (answers : Answers) (ts : List (List Op)) → TogetherAt old number called answers new → FlushField old → WholeField old → Telling W old ts → Telling W new (ts ++ made_of_all answers)
 row-telling W old new number called answers ts h s w t =
@@ -204,10 +204,10 @@ after-telling W old (Asks number peer) (Node answer) new ts h s w well t =
     subst (λ (x : Field). Telling W x (ts ++ made_of (said answer))) (sym h.8)
     (quiet W (record old { deltas = old.deltas ++ h.4 }) ts (made_of (said answer)) (answer-told h.2 h.3 (said answer) h.4 h.7).0 (telling-asked W old ts t h.1 h.2 h.3 (said answer) h.4 h.6.1 h.7))
 after-telling W old (WriteFails number bytes sync) Nothing new ts h s w well t =
-    subst (λ (x : Field). Telling W x (ts ++ [])) (sym h.3) (telling-still W old ts t h.0 h.1 (failing bytes sync h.1) [] h.2.1 (record { config = refl; taken = refl; none = refl }))
+    subst (λ (x : Field). Telling W x (ts ++ [])) (sym h.3) (telling-still W old ts t h.0 h.1 (failing_gateway bytes sync h.1) [] h.2.1 (record { config = refl; taken = refl; none = refl }))
 after-telling W old (Compact number) (Node answer) new ts h s w well t =
     subst (λ (x : Field). Telling W x (ts ++ made_of (said answer))) (sym h.5)
-    (subst (λ m. Telling W (changed old h.0 h.2 []) (ts ++ m)) (sym (compact-told h.1 h.2 (said answer) h.4).0)
+    (subst (λ m. Telling W (field_changed old h.0 h.2 []) (ts ++ m)) (sym (compact-told h.1 h.2 (said answer) h.4).0)
     (telling-still W old ts t h.0 h.1 h.2 [] h.3.1 (compact-still h.1 h.2 (said answer) h.4)))
 after-telling W old (Restart number kept) (Records count) new ts h s w well t =
     subst (λ (x : Field). Telling W x (ts ++ [])) (sym h.4) (telling-back W old ts t h.0 h.1 (restarted kept h.1) [] h.2.1 (came-back kept h.1) (λ q. nothing-came kept h.1 (well q h.0 h.1 h.2.1).0) (restart-feeds kept h.1))
@@ -454,11 +454,11 @@ after-unasked old (Show number) (Row answers) new h e = absurd h
 -- ---- a run
 
 run-telling : (W : Type 0) (old : Field) (events : List Event) (answers : List Answer) (new : Field) (ts : List (List Op)) → Run old events answers new → FlushField old → WholeField old → DueField old
-    → (W → AllByRecursion (λ event. ¬ (Arranges event)) events) → (W → AreWell old) → Telling W old ts → Telling W new (ts ++ told answers)
+    → (W → AllByRecursion (λ event. ¬ (ArrangesFailure event)) events) → (W → AreWell old) → Telling W old ts → Telling W new (ts ++ all_made answers)
 run-telling W old [] [] new ts h s w d never well t = subst (λ (x : Field). Telling W x (ts ++ [])) (sym h) (subst (Telling W old) (sym (append-nil ts)) t)
 run-telling W old (event ∷ events) (answer ∷ answers) new ts h s w d never well t =
     let one = after-sound old event answer h.0 h.1 s w d in
-    subst (Telling W new) (append_assoc ts (made_by answer) (told answers))
+    subst (Telling W new) (append_assoc ts (made_by answer) (all_made answers))
     (run-telling W h.0 events answers new (ts ++ made_by answer) h.2 one.flush one.whole (after-due old event answer h.0 h.1 d)
     (λ q. (never q).1) (λ q. after-well old event answer h.0 h.1 (never q).0 (well q)) (after-telling W old event answer h.0 ts h.1 s w well t))
 run-telling W old [] (answer ∷ answers) new ts h s w d never well t = absurd h
@@ -471,7 +471,7 @@ run-brought old (event ∷ events) (answer ∷ answers) new h =
 run-brought old [] (answer ∷ answers) new h = absurd h
 run-brought old (event ∷ events) [] new h = absurd h
 
-run-unasked : (old : Field) (events : List Event) (answers : List Answer) (new : Field) → Run old events answers new → AllByRecursion (λ event. peer_of event ≡ None) events → brought answers ≡ told answers
+run-unasked : (old : Field) (events : List Event) (answers : List Answer) (new : Field) → Run old events answers new → AllByRecursion (λ event. peer_of event ≡ None) events → brought answers ≡ all_made answers
 run-unasked old [] [] new h e = refl
 run-unasked old (event ∷ events) (answer ∷ answers) new h e =
     ap (λ ds. ds ++ brought answers) (after-unasked old event answer h.0 h.1 e.0) ∙ ap (λ ds. made_by answer ++ ds) (run-unasked h.0 events answers new h.2 e.1)
@@ -484,10 +484,10 @@ start-telling W configs = record {
   all = λ _. record { sets = λ j gateway there. subst (λ T. AllByRecursion (IsTold []) T) (sym (start-taken configs j gateway there)) tt; lists = tt };
 }
 
-field-telling : (configs : List Config) (events : List Event) (answers : List Answer) (field : Field) → Run (new_field configs) events answers field → Telling (NoneFails events) field (told answers)
+field-telling : (configs : List Config) (events : List Event) (answers : List Answer) (field : Field) → Run (new_field configs) events answers field → Telling (NoneFails events) field (all_made answers)
 field-telling configs events answers field h =
     run-telling (NoneFails events) (new_field configs) events answers field [] h (start-flush configs) (start-whole configs) (start-due configs)
-    (λ q. all-moved (λ (event : Event). ¬ (Arranges event)) events q) (λ _. start-well configs) (start-telling (NoneFails events) configs)
+    (λ q. all-moved (λ (event : Event). ¬ (ArrangesFailure event)) events q) (λ _. start-well configs) (start-telling (NoneFails events) configs)
 
 -- ---- the laws
 
@@ -497,13 +497,13 @@ made-once deltas apart proper i j k l one other a b at there inside within named
     let whole : one ≡ other = same_Some one other (sym at ∙ ap (slice_get deltas) same ∙ there) in
     (same, delta-place other (all-at IsDelta deltas j other proper there) k l a b (subst (λ D. slice_get D k ≡ Some a) whole inside) within named)
 
-pub field-once : (configs : List Config) (events : List Event) (answers : List Answer) (field : Field) → Run (new_field configs) events answers field → AreMadeOnce (told answers)
-field-once configs events answers field h = let t = field-telling configs events answers field h in made-once (told answers) t.once.apart t.once.proper
+pub field-once : (configs : List Config) (events : List Event) (answers : List Answer) (field : Field) → Run (new_field configs) events answers field → AreMadeOnce (all_made answers)
+field-once configs events answers field h = let t = field-telling configs events answers field h in made-once (all_made answers) t.once.apart t.once.proper
 
-pub field-told : (configs : List Config) (events : List Event) (answers : List Answer) (field : Field) (op : Op) → Run (new_field configs) events answers field → NoneFails events → Contains (everything field) op → IfSome (number_of op) (λ number. Contains (all_of (told answers)) op)
+pub field-told : (configs : List Config) (events : List Event) (answers : List Answer) (field : Field) (op : Op) → Run (new_field configs) events answers field → NoneFails events → Contains (everything field) op → IfSome (maker_of op) (λ number. Contains (all_of (all_made answers)) op)
 field-told configs events answers field op h none there =
-    All-contains (IsTold (told answers)) (everything field) op
-    (All-from_recursion (IsTold (told answers)) (everything field) (each-all (IsTold (told answers)) field ((field-telling configs events answers field h).all none))) there
+    All-contains (IsTold (all_made answers)) (everything field) op
+    (All-from_recursion (IsTold (all_made answers)) (everything field) (each-all (IsTold (all_made answers)) field ((field-telling configs events answers field h).all none))) there
 
 pub field-brought : (configs : List Config) (events : List Event) (answers : List Answer) (field : Field) → Run (new_field configs) events answers field → field.deltas ≡ brought answers
 field-brought configs events answers field h = run-brought (new_field configs) events answers field h

@@ -7,19 +7,19 @@ use Rattle.rep_op.specs.declared.op.Op.{Op}
 use Rattle.rep_op.specs.declared.op.Op.TheVariants.{Session as OfSession, Put as OfPut, Ack, Retain as OfRetain}
 use Rattle.rep_ops.specs.Deltas.{IsDelta}
 use Rattle.rep_op.specs.Orders.{clock_of}
-use Rattle.rep_op.specs.Sets.{operation_at, put_at, retain_at, Stands}
+use Rattle.rep_op.specs.Sets.{operation_at, put_at, retain_at, HasOperation}
 use Rattle.rep_model.proofs.Joins.{all-moved}
 use Rattle.sn_plan.specs.declared.plan.Plan.{Plan}
 use Rattle.sn_local.specs.Seen.{seen_of}
-use Rattle.sn_plan.specs.Own.{IsOwn, IsFresh, IsOfDraft}
-use Rattle.sn_plan.specs.Flush.{AreFlush, stamp_of}
+use Rattle.sn_plan.specs.Own.{IsOwnWrite, IsFreshName, IsOfDraft}
+use Rattle.sn_plan.specs.Flush.{HaveNoGap, stamp_of}
 use Rattle.sn_plan.proofs.Lists.{all-append, all-weaken}
 use Rattle.row_laws.proofs.Names.{plan-own}
 use Rattle.row_laws.proofs.Stepping.{step-new_operation, step-new_put, step-new_retain}
 use Rattle.gw_event.specs.Gateways.{Gateway}
 use Rattle.gw_event.specs.Event.{HaveName, IsWritable}
 use Rattle.gw_world.specs.Steady.{IsKnown}
-use Rattle.gw_world.specs.Whole.{number_of}
+use Rattle.gw_world.specs.Whole.{maker_of}
 use Rattle.gw_world.proofs.Alone.{turned, some-is, delta-stands, stands-left, stands-right, stands-contains}
 use Rattle.gw_world.proofs.Each.{all-at, AllOf, EachOf, each-weaken, each-grown}
 use Rattle.gw_world.proofs.Numbers.{First, first-one, first-kept, set-there}
@@ -28,10 +28,10 @@ use Rattle.gw_world.proofs.Steadiness.{Still, Stepped, names-apart}
 
 -- the operation stands in the set of the first gateway of this number
 abbrev pub AtFirst : List Gateway → Op → ℕ → Type 0
-AtFirst gs op n = (j : ℕ) × (gateway : Gateway) × First n gs j × (slice_get gs j ≡ Some gateway) × Stands gateway.taken op
+AtFirst gs op n = (j : ℕ) × (gateway : Gateway) × First n gs j × (slice_get gs j ≡ Some gateway) × HasOperation gateway.taken op
 
 abbrev pub IsHeld : List Gateway → Op → Type 0
-IsHeld gs op = IfSome (number_of op) (λ n. AtFirst gs op n)
+IsHeld gs op = IfSome (maker_of op) (λ n. AtFirst gs op n)
 
 -- no name stands in two deltas
 abbrev pub AreApart : List (List Op) → Type 0
@@ -82,7 +82,7 @@ module _ (gs : List Gateway) (i : ℕ) (old next : Gateway) (more : List Op) (is
       let r = first-kept n i h.0 gs old next h.1 is config h.2 h.3 in
       elim r.1 [
         | inl same ↦ (h.0, h.1, r.0, same, h.4)
-        | inr moved ↦ (h.0, next, r.0, moved.1, subst (λ T. Stands T op) (sym taken) (stands-left old.taken more op (subst (λ (g : Gateway). Stands g.taken op) moved.0 h.4)))
+        | inr moved ↦ (h.0, next, r.0, moved.1, subst (λ T. HasOperation T op) (sym taken) (stands-left old.taken more op (subst (λ (g : Gateway). HasOperation g.taken op) moved.0 h.4)))
       ]
 
   held-more : (op : Op) → IsHeld gs op → IsHeld (set gs i next) op
@@ -131,15 +131,15 @@ held-known gs n j gateway f is D all c epoch counter change e =
     let h = All-contains (IsHeld gs) D op (All-from_recursion (IsHeld gs) D all) (operation_occurs c D (stamp_of epoch n, counter) change e) in
     let place : h.0 ≡ j = first-one n h.0 j gs h.2 f in
     let same : h.1 ≡ gateway = same_Some h.1 gateway (sym h.3 ∙ ap (slice_get gs) place ∙ is) in
-    subst (λ (g : Gateway). Stands g.taken op) same h.4
+    subst (λ (g : Gateway). HasOperation g.taken op) same h.4
 
 -- ---- a gateway writes
 
-planned-own : (g : ℕ) (S : List Op) (plan : Plan) (p : IsOfDraft g (seen_of S) plan) (op : Op) → Contains plan.ops op → IsOwn g p.client op
-planned-own g S plan p op there = All-contains (IsOwn g p.client) plan.ops op (All-from_recursion (IsOwn g p.client) plan.ops (plan-own g p.client (seen_of S) p.draft plan p.is)) there
+planned-own : (g : ℕ) (S : List Op) (plan : Plan) (p : IsOfDraft g (seen_of S) plan) (op : Op) → Contains plan.ops op → IsOwnWrite g p.client op
+planned-own g S plan p op there = All-contains (IsOwnWrite g p.client) plan.ops op (All-from_recursion (IsOwnWrite g p.client) plan.ops (plan-own g p.client (seen_of S) p.draft plan p.is)) there
 
 -- the number of an operation of a plan's delta is that of the gateway
-pub own-number : (old next : Gateway) (made : List (List Op)) (u : Stepped old next made) (op : Op) → Contains u.delta op → IfSome (number_of op) (λ n. n ≡ old.config.gateway)
+pub own-number : (old next : Gateway) (made : List (List Op)) (u : Stepped old next made) (op : Op) → Contains u.delta op → IfSome (maker_of op) (λ n. n ≡ old.config.gateway)
 own-number old next made u (OfSession c s k o) h =
     let r = some-is (operation_at c u.plan.ops (s, k)) (ap is_some (sym (u.same.operations_same c (s, k))) ∙ is_there u.delta (OfSession c s k o) h) in
     (planned-own old.config.gateway old.taken u.plan u.drafted (OfSession c s k r.0) (operation_occurs c u.plan.ops (s, k) r.0 r.1)).1
@@ -160,14 +160,14 @@ pushed-cases (x ∷ ds) d a zero e = inl e
 pushed-cases (x ∷ ds) d a (suc i) e = elim (pushed-cases ds d a i e) [ inl before ↦ inl before | inr last ↦ inr (ap suc last.0, last.1) ]
 
 -- the second of two of one name has the number of the first
-same-number : (a b : Op) (n : ℕ) → HaveName a b → IfSome (number_of b) (λ m. m ≡ n) → IfSome (number_of a) (λ m. m ≡ n)
+same-number : (a b : Op) (n : ℕ) → HaveName a b → IfSome (maker_of b) (λ m. m ≡ n) → IfSome (maker_of a) (λ m. m ≡ n)
 same-number (OfSession c s k o) (OfSession d t j p) n h e = (λ i. (h.1 i).gateway) ∙ e
 same-number (OfPut c p) (OfPut d q) n h e = h.1 ∙ e
 same-number (OfRetain t k) (OfRetain u l) n h e = h.2 ∙ e
 same-number a b n h e = absurd h
 
-module _ (gs : List Gateway) (i : ℕ) (old next : Gateway) (made : List (List Op)) (is : slice_get gs i ≡ Some old) (f : First old.config.gateway gs i) (flush : AreFlush old.config.gateway old.taken) (u : Stepped old next made) where
-  new-fresh : (op : Op) → Contains u.delta op → IsFresh old.taken op
+module _ (gs : List Gateway) (i : ℕ) (old next : Gateway) (made : List (List Op)) (is : slice_get gs i ≡ Some old) (f : First old.config.gateway gs i) (flush : HaveNoGap old.config.gateway old.taken) (u : Stepped old next made) where
+  new-fresh : (op : Op) → Contains u.delta op → IsFreshName old.taken op
   new-fresh (OfSession c s k o) h = step-new_operation old.config.gateway old.taken u.plan u.drafted u.delta u.same flush c (s, k) (is_there u.delta (OfSession c s k o) h)
   new-fresh (OfPut c p) h = step-new_put old.config.gateway old.taken u.plan u.drafted u.delta u.same flush c (p.seq, p.origin) (is_there u.delta (OfPut c p) h)
   new-fresh (Ack c origin first last) h = tt
@@ -177,7 +177,7 @@ module _ (gs : List Gateway) (i : ℕ) (old next : Gateway) (made : List (List O
   new-first : (op : Op) → Contains u.delta op → (n : ℕ) → n ≡ old.config.gateway → AtFirst (set gs i next) op n
   new-first op h n e =
       let r = first-kept n i i gs old next old is u.config (subst (λ m. First m gs i) (sym e) f) is in
-      (i, next, r.0, set-there i gs old next is, subst (λ T. Stands T op) (sym u.taken) (stands-right old.taken u.delta op (new-fresh op h) (delta-stands u.delta u.proper op h)))
+      (i, next, r.0, set-there i gs old next is, subst (λ T. HasOperation T op) (sym u.taken) (stands-right old.taken u.delta op (new-fresh op h) (delta-stands u.delta u.proper op h)))
 
   new-held : (op : Op) → Contains u.delta op → IsHeld (set gs i next) op
   new-held (OfSession c s k o) h = new-first (OfSession c s k o) h s.gateway (own-number old next made u (OfSession c s k o) h)
@@ -190,9 +190,9 @@ module _ (gs : List Gateway) (i : ℕ) (old next : Gateway) (made : List (List O
   first-apart a b h there named =
       let place : h.0 ≡ i = first-one old.config.gateway h.0 i gs h.2 f in
       let same : h.1 ≡ old = same_Some h.1 old (sym h.3 ∙ ap (slice_get gs) place ∙ is) in
-      names-apart old u.plan u.drafted u.delta u.same flush a b (stands-contains old.taken a b named (subst (λ (g : Gateway). Stands g.taken a) same h.4)) there named
+      names-apart old u.plan u.drafted u.delta u.same flush a b (stands-contains old.taken a b named (subst (λ (g : Gateway). HasOperation g.taken a) same h.4)) there named
 
-  held-apart : (a b : Op) → IsHeld gs a → Contains u.delta b → HaveName a b → IfSome (number_of a) (λ n. n ≡ old.config.gateway) → ⊥
+  held-apart : (a b : Op) → IsHeld gs a → Contains u.delta b → HaveName a b → IfSome (maker_of a) (λ n. n ≡ old.config.gateway) → ⊥
   held-apart (OfSession c s k o) b h there named e = first-apart (OfSession c s k o) b (subst (λ n. AtFirst gs (OfSession c s k o) n) e h) there named
   held-apart (OfPut c p) b h there named e = first-apart (OfPut c p) b (subst (λ n. AtFirst gs (OfPut c p) n) e h) there named
   held-apart (OfRetain t k) b h there named e = first-apart (OfRetain t k) b (subst (λ n. AtFirst gs (OfRetain t k) n) e h) there named

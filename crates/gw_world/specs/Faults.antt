@@ -4,7 +4,7 @@ use Rattle.gw_world.specs.declared.world.WorldFault.{WorldFault}
 use Rattle.gw_world.specs.declared.world.WorldFault.TheVariants.{NoGateway, NoDelta, Memory}
 
 -- the number of a fault
-abbrev pub fault_number : WorldFault → ℕ
-fault_number (NoGateway event) = 1
-fault_number (NoDelta event) = 2
-fault_number Memory = 3
+abbrev pub world_fault_number : WorldFault → ℕ
+world_fault_number (NoGateway event) = 1
+world_fault_number (NoDelta event) = 2
+world_fault_number Memory = 3

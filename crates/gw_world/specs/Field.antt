@@ -41,8 +41,8 @@ IsAt field number i gateway =
     (place_of number field.gateways ≡ Some i) × (slice_get field.gateways i ≡ Some gateway)
 
 -- the i-th gateway became another, and these deltas were made
-abbrev pub changed : Field → ℕ → Gateway → List (List Op) → Field
-changed field i gateway made =
+abbrev pub field_changed : Field → ℕ → Gateway → List (List Op) → Field
+field_changed field i gateway made =
     record { gateways = slice_set field.gateways i gateway; deltas = field.deltas ++ made }
 
 -- the delta of this number; the first has number 1
@@ -58,7 +58,7 @@ abbrev pub Steps : Field → ℕ → Occasion → ℕ → Result Out Refusal →
 Steps old number occasion now answer new =
     (i : ℕ) × (gateway : Gateway) × (next : Gateway) × (made : List (List Op))
     × IsAt old number i gateway × OwnStep gateway occasion now answer next made
-    × (new ≡ changed old i next made)
+    × (new ≡ field_changed old i next made)
 
 -- what the digest of a gateway, sent to a peer, may do: the deltas that the peer answers join the
 -- list, and nothing else changes
@@ -69,8 +69,8 @@ Asked old number other answer new =
     × (new ≡ record old { deltas = old.deltas ++ made })
 
 -- the gateway whose next write is to fail
-abbrev pub failing : ℕ → Bool → Gateway → Gateway
-failing bytes sync old = record old { drive = arranged bytes sync old.drive }
+abbrev pub failing_gateway : ℕ → Bool → Gateway → Gateway
+failing_gateway bytes sync old = record old { drive = arranged bytes sync old.drive }
 
 -- what a call is for the node: a datagram, a tick, or a delta of the field's list
 abbrev pub IsStepOf : Field → Call → Step → Type 0
@@ -93,9 +93,11 @@ AreFed answers = AllByRecursion (λ answer. answer ≢ Err refusals.Memory) answ
 -- What calls with one write may do at a gateway. Each call has its own answer, in their order.
 abbrev pub TogetherAt : Field → ℕ → List Call → List (Result Out Refusal) → Field → Type 0
 TogetherAt old number calls answers new =
-    (i : ℕ) × (gateway : Gateway) × (next : Gateway) × (made : List (List Op)) × (called : List Step)
+    (i : ℕ) × (gateway : Gateway) × (next : Gateway) × (made : List (List Op))
+    × (called : List Step)
     × IsAt old number i gateway × AreStepsOf old calls called
-    × Together gateway called answers next made × AreFed answers × (new ≡ changed old i next made)
+    × Together gateway called answers next made × AreFed answers
+    × (new ≡ field_changed old i next made)
 
 -- what one event may do: its answer, and the field after it
 abbrev pub After : Field → Event → Answer → Field → Type 0
@@ -105,18 +107,19 @@ After old (Tick number now) (Node answer) new = Steps old number Clock now (said
 After old (Take number delta) (Node answer) new =
     (i : ℕ) × (gateway : Gateway) × (next : Gateway) × (made : List (List Op)) × (ops : List Op)
     × IsAt old number i gateway × IsDeltaAt old delta ops
-    × TakeStep gateway ops (said answer) next made × (new ≡ changed old i next made)
-After old (AtOnce number calls) (Row answers) new = TogetherAt old number calls (map said answers) new
+    × TakeStep gateway ops (said answer) next made × (new ≡ field_changed old i next made)
+After old (AtOnce number calls) (Row answers) new =
+    TogetherAt old number calls (map said answers) new
 After old (Asks number peer) (Node answer) new = Asked old number peer (said answer) new
 After old (WriteFails number bytes sync) Nothing new =
     (i : ℕ) × (gateway : Gateway) × IsAt old number i gateway
-    × (new ≡ changed old i (failing bytes sync gateway) [])
+    × (new ≡ field_changed old i (failing_gateway bytes sync gateway) [])
 After old (Compact number) (Node answer) new =
     (i : ℕ) × (gateway : Gateway) × (next : Gateway) × IsAt old number i gateway
-    × CompactStep gateway (said answer) next × (new ≡ changed old i next [])
+    × CompactStep gateway (said answer) next × (new ≡ field_changed old i next [])
 After old (Restart number kept) (Records count) new =
     (i : ℕ) × (gateway : Gateway) × IsAt old number i gateway × (count ≡ records_left kept gateway)
-    × (new ≡ changed old i (restarted kept gateway) [])
+    × (new ≡ field_changed old i (restarted kept gateway) [])
 After old (Show number) (Views views topics) new =
     (i : ℕ) × (gateway : Gateway) × IsAt old number i gateway × (views ≡ shown gateway.taken)
     × (new ≡ old) × (topics ≡ all_retained gateway.taken)
@@ -135,16 +138,16 @@ abbrev pub NoGateway : Field → ℕ → Type 0
 NoGateway field number = place_of number field.gateways ≡ None
 
 -- the gateway that an event is at
-abbrev pub gateway_of : Event → ℕ
-gateway_of (Frame number from bytes now) = number
-gateway_of (Tick number now) = number
-gateway_of (Take number delta) = number
-gateway_of (AtOnce number calls) = number
-gateway_of (Asks number peer) = number
-gateway_of (WriteFails number bytes sync) = number
-gateway_of (Compact number) = number
-gateway_of (Restart number kept) = number
-gateway_of (Show number) = number
+abbrev pub gateway_of_event : Event → ℕ
+gateway_of_event (Frame number from bytes now) = number
+gateway_of_event (Tick number now) = number
+gateway_of_event (Take number delta) = number
+gateway_of_event (AtOnce number calls) = number
+gateway_of_event (Asks number peer) = number
+gateway_of_event (WriteFails number bytes sync) = number
+gateway_of_event (Compact number) = number
+gateway_of_event (Restart number kept) = number
+gateway_of_event (Show number) = number
 
 -- the other gateway that an event names, if it names one
 abbrev pub peer_of : Event → Option ℕ

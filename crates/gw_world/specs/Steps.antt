@@ -5,7 +5,7 @@ use Rattle.std.specs.List.{AllByRecursion}
 use Rattle.rep_op.specs.declared.op.Op.{Op}
 use Rattle.rep_answer.specs.Answers.{IsAnswer}
 use Rattle.rep_digest.specs.Digests.{digest}
-use Rattle.rep_digest.specs.Spelling.{IsWithinLimit as IsDigestWithinLimit}
+use Rattle.rep_digest.specs.Spelling.{IsDigestWithinLimit}
 use Rattle.jr_journal.specs.Records.{records}
 use Rattle.gw_answer.specs.declared.out.Out.{Out}
 use Rattle.gw_answer.specs.declared.refusal.Refusal.{Refusal}
@@ -32,10 +32,4 @@ AnswerStep asker peer (Ok out) made =
     × (out ≡ record (only_sends []) { answer = made })
 AnswerStep asker peer (Err refusals.Full) made =
     (¬ (IsDigestWithinLimit (digest asker.taken))) × (made ≡ [])
-AnswerStep asker peer (Err (refusals.Frame fault)) made = ⊥
-AnswerStep asker peer (Err refusals.Exhausted) made = ⊥
-AnswerStep asker peer (Err (refusals.Conflict client)) made = ⊥
-AnswerStep asker peer (Err refusals.Halted) made = ⊥
-AnswerStep asker peer (Err (refusals.Disk excuse)) made = ⊥
-AnswerStep asker peer (Err (refusals.Journal fault)) made = ⊥
-AnswerStep asker peer (Err refusals.Memory) made = ⊥
+AnswerStep asker peer answer made = ⊥

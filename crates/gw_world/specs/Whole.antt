@@ -4,7 +4,7 @@ use Rattle.std.specs.Prelude.{◌≡◌, ℕ, List, [], ◌++◌, map, flat_map,
 use Rattle.std.specs.List.{AllByRecursion}
 use Rattle.rep_op.specs.declared.op.Op.{Op}
 use Rattle.rep_op.specs.declared.op.Op.TheVariants.{Session as OfSession, Put as OfPut, Ack, Retain as OfRetain}
-use Rattle.rep_op.specs.Sets.{Stands, Within}
+use Rattle.rep_op.specs.Sets.{HasOperation, Within}
 use Rattle.gw_answer.specs.declared.out.Out.{Out}
 use Rattle.gw_answer.specs.declared.refusal.Refusal.{Refusal}
 use Rattle.gw_answer.specs.Answers.{said}
@@ -30,20 +30,20 @@ everything field = flat_map (λ (gateway : Gateway). gateway.taken) field.gatewa
 -- The number of the gateway in the operation's name: that of the stamp, or the origin of the
 -- message, or who retained it. An acknowledgement has none: it contradicts nothing, whoever writes
 -- it.
-abbrev pub number_of : Op → Option ℕ
-number_of (OfSession c stamp counter change) = Some stamp.gateway
-number_of (OfPut c put) = Some put.origin
-number_of (Ack c origin first last) = None
-number_of (OfRetain topic kept) = Some kept.gateway
+abbrev pub maker_of : Op → Option ℕ
+maker_of (OfSession c stamp counter change) = Some stamp.gateway
+maker_of (OfPut c put) = Some put.origin
+maker_of (Ack c origin first last) = None
+maker_of (OfRetain topic kept) = Some kept.gateway
 
 -- the set of the gateway of this number has the operation
 abbrev pub StandsAt : Field → Op → ℕ → Type 0
 StandsAt field op number =
-    (i : ℕ) × (gateway : Gateway) × IsAt field number i gateway × Stands gateway.taken op
+    (i : ℕ) × (gateway : Gateway) × IsAt field number i gateway × HasOperation gateway.taken op
 
 -- an operation that is no acknowledgement is in the set of the gateway whose number is in its name
-abbrev pub IsHome : Field → Op → Type 0
-IsHome field op = IfSome (number_of op) (λ number. StandsAt field op number)
+abbrev pub IsAtOrigin : Field → Op → Type 0
+IsAtOrigin field op = IfSome (maker_of op) (λ number. StandsAt field op number)
 
 -- a name, but of acknowledgements, occurs at one place of one delta
 abbrev pub AreMadeOnce : List (List Op) → Type 0
@@ -76,17 +76,17 @@ MayMake (Tick number now) = Unit {0}
 MayMake event = ⊥
 
 -- an event that arranges a failure
-abbrev pub Arranges : Event → Type 0
-Arranges (WriteFails number bytes sync) = Unit {0}
-Arranges event = ⊥
+abbrev pub ArrangesFailure : Event → Type 0
+ArrangesFailure (WriteFails number bytes sync) = Unit {0}
+ArrangesFailure event = ⊥
 
 -- no event of the list arranges a failure
 abbrev pub NoneFails : List Event → Type 0
-NoneFails events = (event : Event) → Contains events event → ¬ (Arranges event)
+NoneFails events = (event : Event) → Contains events event → ¬ (ArrangesFailure event)
 
 -- all deltas that the answers report as made, in their order
-abbrev pub told : List Answer → List (List Op)
-told answers = flat_map made_by answers
+abbrev pub all_made : List Answer → List (List Op)
+all_made answers = flat_map made_by answers
 
 -- the deltas that an answer brings into the list: the one that was made, or those that answer a
 -- digest

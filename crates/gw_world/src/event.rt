@@ -76,11 +76,11 @@ pub enum Event {
 
 impl Event {
     ghost use Rattle.std.specs.Prelude.{◌≡◌};
-    ghost use Rattle.gw_world.specs.Field.{gateway_of, peer_of};
+    ghost use Rattle.gw_world.specs.Field.{gateway_of_event, peer_of};
 
     /// The number of the gateway that the event is at.
     pub fn gateway(&self) -> u8
-        ensures { result ≡ gateway_of self.now }
+        ensures { result ≡ gateway_of_event self.now }
     {
         match self {
             Event::Frame { gateway, .. } => *gateway,

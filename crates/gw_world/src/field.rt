@@ -5,9 +5,9 @@ ghost use Rattle.std.specs.List.{AllByRecursion};
 ghost use Rattle.rep_model.specs.Views as spec;
 ghost use Rattle.gw_answer.specs.declared.refusal.Refusal.TheVariants as refusals;
 ghost use Rattle.gw_node.specs.Parts.{state_of, disk_of, records_of};
-ghost use Rattle.gw_answer.specs.Answers.{told, said};
+ghost use Rattle.gw_answer.specs.Answers.{refusal_of_fault, said};
 ghost use Rattle.gw_answer.specs.declared.step.Step.TheVariants as steps;
-ghost use Rattle.gw_world.specs.inner.Events.{IsFed, GoesOn, StartsAgain, FailsNext, IsStood, IsAnswered, IsNoDigest, AskKept, IsListed, place_in, Moves, StepsAt};
+ghost use Rattle.gw_world.specs.inner.Events.{IsFed, GoesOn, StartsAgain, FailsNext, IsStood, AnswersDigest, IsNoDigest, AskKept, IsListed, place_in, Moves, StepsAt};
 ghost use Rattle.rep_op.specs.declared.op.Op.{Op};
 ghost use Rattle.gw_world.specs.Field.{shown};
 
@@ -215,7 +215,7 @@ pub fn fail_at<R: Replica>(
 
 /// What is said where a call was refused for want of memory.
 pub(crate) fn want_of_memory(fault: NodeFault) -> NoMemory
-    requires { told fault ≡ refusals.Memory }
+    requires { refusal_of_fault fault ≡ refusals.Memory }
 {
     let want = match &fault {
         NodeFault::Memory => NoMemory,
@@ -290,7 +290,7 @@ fn answer_of<R: Replica>(
     digest: &Digest,
 ) -> Result<Arc<Out>, NoMemory>
     ensures { IfOk result (λ out.
-        IsAnswered digest.now (state_of R.kept peer.now).kept (said (Ok out))) }
+        AnswersDigest digest.now (state_of R.kept peer.now).kept (said (Ok out))) }
 {
     match peer.answer(alloc, digest) {
         Ok(out) => Ok(out),
@@ -300,9 +300,9 @@ fn answer_of<R: Replica>(
 
 /// What is said where there is no digest: it is too long, unless memory ran out.
 fn too_long(fault: &NodeFault) -> Result<NodeFault, NoMemory>
-    requires { IsNoDigest (told fault.now) }
-    ensures { IfOk result (λ given. (told fault.now ≡ refusals.Full)
-        × (told given ≡ refusals.Full)) }
+    requires { IsNoDigest (refusal_of_fault fault.now) }
+    ensures { IfOk result (λ given. (refusal_of_fault fault.now ≡ refusals.Full)
+        × (refusal_of_fault given ≡ refusals.Full)) }
 {
     match fault {
         NodeFault::Full => Ok(NodeFault::Full),

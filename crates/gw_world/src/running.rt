@@ -82,22 +82,37 @@ fn record_answered(
     }
 }
 
+/// A datagram that comes to a gateway.
+#[derive(Clone, Copy)]
+struct Datagram<'a> {
+    /// Who sent it.
+    from: Addr,
+    /// Its octets.
+    bytes: &'a [u8],
+    /// The second in which it comes.
+    second: u64,
+}
+
 /// A datagram comes to the gateway in this place.
 fn play_frame<R: Replica>(
     alloc: Global,
     nodes: &mut Vec<Node<R, MemoryDisk>>,
     deltas: &mut Vec<Delta>,
     place: usize,
-    from: Addr,
-    bytes: &[u8],
-    now: u64,
+    datagram: Datagram<'_>,
 ) -> Result<Answer, NoMemory>
     requires { place < vec_len nodes.old }
     ensures { IfOk result (OwnAnswered (map (λ node. state_of R.kept node) nodes.old.items)
-        deltas.old.items place (steps.Frame from bytes.now now) (map (λ node. state_of R.kept node)
-        nodes.new.items) deltas.new.items) }
+        deltas.old.items place (steps.Frame datagram.entry.from datagram.entry.bytes.now
+        datagram.entry.second) (map (λ node. state_of R.kept node) nodes.new.items)
+        deltas.new.items) }
 {
-    let answer = frame_at(alloc, nodes, place, from, bytes, now)?;
+    let Datagram {
+        from,
+        bytes,
+        second,
+    } = datagram;
+    let answer = frame_at(alloc, nodes, place, from, bytes, second)?;
     record_made(alloc, deltas, &answer)?;
     Ok(Answer::Node(answer))
 }
@@ -309,7 +324,14 @@ fn play_at<R: Replica>(
             bytes,
             now,
             ..
-        } => or_memory(play_frame(alloc, nodes, deltas, place, *from, bytes.as_slice(), *now)),
+        } => {
+            let datagram = Datagram {
+                from: *from,
+                bytes: bytes.as_slice(),
+                second: *now,
+            };
+            or_memory(play_frame(alloc, nodes, deltas, place, datagram))
+        }
         Event::Tick { now, .. } => or_memory(play_tick(alloc, nodes, deltas, place, *now)),
         Event::Take { delta, .. } => match delta_at(deltas.as_slice(), *delta) {
             Some(delta) => or_memory(play_take(alloc, nodes, place, delta)),

@@ -1,7 +1,7 @@
 //! The result of a run.
 
 ghost use Rattle.std.specs.Prelude.{◌≡◌};
-ghost use Rattle.gw_world.specs.Faults.{fault_number};
+ghost use Rattle.gw_world.specs.Faults.{world_fault_number};
 ghost use Rattle.gw_world.specs.declared.world.WorldFault.TheVariants.{Memory};
 
 use super::event::Answer;
@@ -41,7 +41,7 @@ pub enum WorldFault {
 impl WorldFault {
     /// Its number, from 1 to 3.
     pub fn number(&self) -> u8
-        ensures { result ≡ fault_number self.now }
+        ensures { result ≡ world_fault_number self.now }
     {
         match self {
             WorldFault::NoGateway { .. } => 1,

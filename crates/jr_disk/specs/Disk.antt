@@ -4,8 +4,8 @@ use Rattle.jr_disk.specs.declared.disk.Slot.{Slot}
 use Rattle.jr_disk.specs.declared.disk.Slot.TheVariants.{First, Second}
 use Rattle.jr_disk.specs.declared.disk.DiskFault.{DiskFault}
 use Rattle.jr_disk.specs.declared.disk.Short.{Short}
-use Rattle.jr_disk.specs.declared.disk.Plan.{Plan}
-use Rattle.jr_disk.specs.declared.disk.Plan.TheVariants.{Stop, KeepBack, FailSync}
+use Rattle.jr_disk.specs.declared.disk.Failure.{Failure}
+use Rattle.jr_disk.specs.declared.disk.Failure.TheVariants.{Stop, KeepBack, FailSync}
 
 -- the bytes of a slot: those that are synced, and those that were appended since
 pub record SlotBytes : Type 0 where
@@ -79,7 +79,8 @@ HasCause old new result = (old ≤ new) × MatchResult result (λ _. new ≡ old
 
 -- what an append of this many bytes does by the failure that is arranged: nothing is known, none,
 -- or this one
-abbrev pub AppendsAs : Option (Option Plan) → ℕ → Result (Unit {0}) Short → Option (Option Plan)
+abbrev pub AppendsAs : Option (Option Failure) → ℕ → Result (Unit {0}) Short
+    → Option (Option Failure)
     → Type 0
 AppendsAs None n result after = Unit {0}
 AppendsAs (Some None) n result after = IsOk result × (after ≡ Some None)
@@ -90,7 +91,7 @@ AppendsAs (Some (Some FailSync)) n result after = IsOk result × (after ≡ Some
 
 -- What a sync does by the failure that is arranged. If that is not known, nothing is said. It fails
 -- by `FailSync`, which is over then; else it succeeds.
-abbrev pub SyncsAs : Option (Option Plan) → Result (Unit {0}) DiskFault → Option (Option Plan)
+abbrev pub SyncsAs : Option (Option Failure) → Result (Unit {0}) DiskFault → Option (Option Failure)
     → Type 0
 SyncsAs None result after = Unit {0}
 SyncsAs (Some None) result after = IsOk result × (after ≡ Some None)
@@ -100,18 +101,18 @@ SyncsAs (Some (Some FailSync)) result after = IsErr result × (after ≡ Some No
 
 -- any other call: the failure that is arranged is not for it, so it succeeds and leaves that
 -- arranged
-abbrev pub GoesAs : {T E : Type 0} → Option (Option Plan) → Result T E → Option (Option Plan)
+abbrev pub GoesAs : {T E : Type 0} → Option (Option Failure) → Result T E → Option (Option Failure)
     → Type 0
 GoesAs None result after = Unit {0}
 GoesAs (Some plan) result after = IsOk result × (after ≡ Some plan)
 
 -- whatever became of the call, what is known to be arranged still is
-abbrev pub StaysArranged : Option (Option Plan) → Option (Option Plan) → Type 0
+abbrev pub StaysArranged : Option (Option Failure) → Option (Option Failure) → Type 0
 StaysArranged None after = Unit {0}
 StaysArranged (Some plan) after = after ≡ Some plan
 
 -- memory was refused in the call: it failed, nothing went out, and what is arranged still is
-abbrev pub IsWanting : {T E : Type 0} → Result T E → Slots → Slots → Option (Option Plan)
-    → Option (Option Plan)
+abbrev pub WantsMemory : {T E : Type 0} → Result T E → Slots → Slots → Option (Option Failure)
+    → Option (Option Failure)
     → Type 0
-IsWanting result old new before after = IsErr result × (new ≡ old) × (after ≡ before)
+WantsMemory result old new before after = IsErr result × (new ≡ old) × (after ≡ before)

@@ -1,14 +1,14 @@
 -- What contracts see of a disk in memory.
 use Rattle.std.specs.Prelude.{Option, Some, None, ℕ, Bool, false, if◌then◌else◌, []}
-use Rattle.jr_disk.specs.declared.disk.Plan.{Plan}
-use Rattle.jr_disk.specs.declared.disk.Plan.TheVariants.{Stop, KeepBack}
+use Rattle.jr_disk.specs.declared.disk.Failure.{Failure}
+use Rattle.jr_disk.specs.declared.disk.Failure.TheVariants.{Stop, KeepBack}
 use Rattle.jr_disk.specs.Disk.{Slots, SlotBytes, crashed}
 
 -- the slots of a disk in memory, the failure that is arranged, and how often calls failed
 pub record MemoryState : Type 0 where
   pub slots : Slots
   -- the failure that is arranged
-  pub plan : Option Plan
+  pub plan : Option Failure
   -- memory was refused in it
   pub starved : Bool
   -- how many calls have failed

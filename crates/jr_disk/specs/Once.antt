@@ -1,6 +1,6 @@
 -- A disk in memory on which one call fails.
 use Rattle.std.specs.Prelude.{Option, Some, None, ℕ}
-use Rattle.jr_disk.specs.declared.disk.Plan.{Plan}
+use Rattle.jr_disk.specs.declared.disk.Failure.{Failure}
 use Rattle.jr_disk.specs.declared.once.OnceCall.{OnceCall}
 use Rattle.jr_disk.specs.Memory.{MemoryState}
 
@@ -14,6 +14,6 @@ pub record OnceState : Type 0 where
 
 -- nothing is known of what will fail as long as a call is to fail; else the failure that is
 -- arranged on the disk
-abbrev pub outlook_of : Option ℕ → Option Plan → Option (Option Plan)
+abbrev pub outlook_of : Option ℕ → Option Failure → Option (Option Failure)
 outlook_of None plan = Some plan
 outlook_of (Some after) plan = None

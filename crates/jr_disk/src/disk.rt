@@ -26,7 +26,7 @@ pub struct Short {
 
 /// A failure that is arranged.
 #[derive(Clone, Copy, PartialEq, Eq)]
-pub enum Plan {
+pub enum Failure {
     /// The next append fails after so many bytes, or after all where there are fewer.
     Stop { after: usize },
     /// The next append goes out, and the sync after it fails.
@@ -44,8 +44,8 @@ pub enum Plan {
 pub trait Disk {
     ghost use Rattle.std.specs.Prelude.{Bool, Option, Some, None, true, false, ℕ, ◌≡◌, ◌≤◌, ◌+◌, ◌⊎◌, length, take, drop, OnOk, OnErr, IfOk, IfErr, IsErr};
     ghost use Rattle.jr_disk.specs.Disk.{Slots, HasCause, at, replaced, bytes_of, appended, all_synced, cut_to};
-    ghost use Rattle.jr_disk.specs.Disk.{AppendsAs, SyncsAs, GoesAs, StaysArranged, IsWanting};
-    ghost use Rattle.jr_disk.specs.declared.disk.Plan.{Plan};
+    ghost use Rattle.jr_disk.specs.Disk.{AppendsAs, SyncsAs, GoesAs, StaysArranged, WantsMemory};
+    ghost use Rattle.jr_disk.specs.declared.disk.Failure.{Failure};
 
     /// The disk does what the clauses under this premise say.
     ghost honest: { Type 0 };
@@ -60,7 +60,7 @@ pub trait Disk {
     ghost starved: { Self → Bool };
 
     /// The failure that is arranged: nothing is known of it, there is none, or this one.
-    ghost outlook: { Self → Option (Option Plan) };
+    ghost outlook: { Self → Option (Option Failure) };
 
     /// How many bytes a slot holds.
     fn len(&mut self, slot: Slot) -> Result<usize, DiskFault>
@@ -97,12 +97,12 @@ pub trait Disk {
         // Where memory was refused in it nothing went out, and the failure that is arranged still
         // is.
         ensures wanting { starved self.old ≡ false → starved self.new ≡ true →
-            IsWanting result (slots self.old) (slots self.new) (outlook self.old)
+            WantsMemory result (slots self.old) (slots self.new) (outlook self.old)
             (outlook self.new) }
         // Where memory was refused before, the call goes as arranged, or it is refused again.
         ensures again { starved self.old ≡ true →
             AppendsAs (outlook self.old) (length bytes.now) result (outlook self.new)
-            ⊎ IsWanting result (slots self.old) (slots self.new) (outlook self.old)
+            ⊎ WantsMemory result (slots self.old) (slots self.new) (outlook self.old)
             (outlook self.new) }
         ensures within { IfErr result (λ short. short.written ≤ length bytes.now) }
         ensures ok { honest → OnOk result (slots self.new ≡ replaced (slots self.old) slot

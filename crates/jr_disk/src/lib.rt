@@ -20,7 +20,7 @@ mod failures;
 mod memory;
 mod once;
 
-pub use disk::{Disk, DiskFault, Plan, Short, Slot};
+pub use disk::{Disk, DiskFault, Failure, Short, Slot};
 pub use failures::Failures;
 pub use memory::{MemoryDisk, memory_disk_is_honest};
 pub use once::{OnceCall, OnceDisk, once_disk_is_honest};

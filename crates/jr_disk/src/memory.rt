@@ -2,7 +2,7 @@
 
 ghost use Rattle.std.specs.Prelude.{Some, ◌≡◌, ◌≤◌, ℕ, ◌+◌, Bool, true, ◌++◌, min, length, take, OnOk, OnErr, IfOk, IsOk, IsErr};
 
-use crate::disk::{Disk, DiskFault, Plan, Short, Slot};
+use crate::disk::{Disk, DiskFault, Failure, Short, Slot};
 use crate::failures::Failures;
 use std::alloc::{AllocError, Global};
 use std::marker::Model;
@@ -147,7 +147,7 @@ impl MemorySlots {
 #[derive(Drop)]
 pub struct MemoryDisk {
     slots: MemorySlots,
-    plan: Option<Plan>,
+    plan: Option<Failure>,
     starved: bool,
     failures: Failures,
 }
@@ -205,9 +205,9 @@ impl MemoryDisk {
         ensures { self.new ≡ failing bytes sync self.old }
     {
         self.plan = if sync {
-            Some(Plan::KeepBack)
+            Some(Failure::KeepBack)
         } else {
-            Some(Plan::Stop { after: bytes })
+            Some(Failure::Stop { after: bytes })
         };
     }
 
@@ -254,8 +254,8 @@ impl Disk for MemoryDisk {
 
     fn append(&mut self, slot: Slot, bytes: &[u8]) -> Result<(), Short> {
         let stop = match self.plan {
-            Some(Plan::Stop { after }) => Some(least(after, bytes.len())),
-            Some(Plan::KeepBack) | Some(Plan::FailSync) | None => None,
+            Some(Failure::Stop { after }) => Some(least(after, bytes.len())),
+            Some(Failure::KeepBack) | Some(Failure::FailSync) | None => None,
         };
         let written = stop.unwrap_or(bytes.len());
         if self.slots.append(slot, &bytes[..written]).is_err() {
@@ -263,21 +263,21 @@ impl Disk for MemoryDisk {
             return Err(Short { written: 0 });
         }
         match self.plan {
-            Some(Plan::Stop { .. }) => {
+            Some(Failure::Stop { .. }) => {
                 self.plan = None;
                 self.count_failure();
                 Err(Short { written })
             }
-            Some(Plan::KeepBack) => {
-                self.plan = Some(Plan::FailSync);
+            Some(Failure::KeepBack) => {
+                self.plan = Some(Failure::FailSync);
                 Ok(())
             }
-            Some(Plan::FailSync) | None => Ok(()),
+            Some(Failure::FailSync) | None => Ok(()),
         }
     }
 
     fn sync(&mut self, slot: Slot) -> Result<(), DiskFault> {
-        if matches!(self.plan, Some(Plan::FailSync)) {
+        if matches!(self.plan, Some(Failure::FailSync)) {
             self.plan = None;
             self.count_failure();
             return Err(DiskFault);

@@ -9,7 +9,7 @@ use Rattle.jr_disk.specs.declared.disk.Slot.{Slot}
 use Rattle.jr_disk.specs.declared.disk.Slot.TheVariants.{First, Second}
 use Rattle.jr_disk.specs.declared.disk.Short.{Short}
 use Rattle.jr_disk.specs.declared.disk.DiskFault.{DiskFault}
-use Rattle.jr_disk.specs.declared.disk.Plan.TheVariants.{Stop, KeepBack, FailSync}
+use Rattle.jr_disk.specs.declared.disk.Failure.TheVariants.{Stop, KeepBack, FailSync}
 use Rattle.jr_journal.specs.declared.piece.Found.{Found}
 use Rattle.jr_disk.specs.Disk.{SlotBytes, Slots, at, replaced, image, appended, all_synced, AppendsAs, SyncsAs}
 use Rattle.jr_journal.specs.Records.{written, slot_content, generation_in, records}

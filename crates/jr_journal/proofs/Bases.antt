@@ -12,7 +12,7 @@ use Rattle.rep_op.specs.declared.op.Op.{Op}
 use Rattle.jr_journal.specs.declared.piece.Piece.TheVariants.{Seal}
 use Rattle.jr_journal.specs.declared.piece.Found.{Found}
 use Rattle.jr_journal.specs.declared.content.SlotContent.TheVariants.{Unsealed, Sealed, Broken}
-use Rattle.jr_journal.specs.Records.{delta_bytes, written, made, ended, joined, one_record, one_seal, found, piece_at, slot_content, magic, base_bytes, begins, after_header}
+use Rattle.jr_journal.specs.Records.{delta_bytes, written, found_of, ended, found_joined, one_record, one_seal, found, piece_at, slot_content, magic, base_bytes, begins, after_header}
 use Rattle.jr_journal.specs.Readable.{IsReadable}
 use Rattle.jr_journal.proofs.Append.{made_same, found_append, found_written, found_front, length_written}
 use Rattle.jr_journal.proofs.Pieces.{found_seal, found_nothing}
@@ -26,16 +26,16 @@ abbrev pub base_of : List (List Op) → List ℕ
 base_of base = flat_map written base
 
 abbrev pub many : Bool → List (List Op) → Found
-many sealed base = made base sealed (length (base_of base)) false
+many sealed base = found_of base sealed (length (base_of base)) false
 
 pub found_many : (s : Bool) (base : List (List Op)) → AllByRecursion IsReadable base → found 0 s (base_of base) ≡ many s base
 found_many s [] h = found_nothing 0 s
 found_many s (delta ∷ base) h =
     let one = one_record delta (length (delta_bytes delta)) s in
     let size = length_written delta in
-    let more : found 0 s (written delta ++ base_of base) ≡ joined one (found 0 s (base_of base)) =
+    let more : found 0 s (written delta ++ base_of base) ≡ found_joined one (found 0 s (base_of base)) =
     found_append 0 s (written delta) (base_of base) one (found_written s delta h.0) refl (omega (arith, size)) in
-    more ∙ (ap (λ q. joined one q) (found_many s base h.1)
+    more ∙ (ap (λ q. found_joined one q) (found_many s base h.1)
     ∙ made_same (delta ∷ base) (delta ∷ base) s (5 + length (delta_bytes delta) + length (base_of base)) (length (written delta ++ base_of base)) false refl (omega (arith, size, length-append (written delta) (base_of base))))
 
 seal_piece : piece_at 83 [] ≡ Seal
@@ -46,12 +46,12 @@ abbrev pub body_of : List (List Op) → List ℕ
 body_of base = base_of base ++ 83 ∷ []
 
 abbrev pub whole_of : List (List Op) → Found
-whole_of base = made (base ++ []) true (length (base_of base) + 1) false
+whole_of base = found_of (base ++ []) true (length (base_of base) + 1) false
 
 pub found_body : (base : List (List Op)) → AllByRecursion IsReadable base → found 0 false (body_of base) ≡ whole_of base
 found_body base h =
     found_append 0 false (base_of base) (83 ∷ []) (many false base) (found_many false base h) refl (omega arith)
-    ∙ ap (λ q. joined (many false base) q) (found_seal 83 [] seal_piece ∙ ap (λ q. joined one_seal q) (found_nothing 0 true))
+    ∙ ap (λ q. found_joined (many false base) q) (found_seal 83 [] seal_piece ∙ ap (λ q. found_joined one_seal q) (found_nothing 0 true))
 
 -- cut before the seal, no seal is found and nothing bad
 pub record IsOpen (bytes : List ℕ) : Type 0 where
@@ -81,8 +81,8 @@ open_front (delta ∷ base) n h =
           let rest = open_front base (n - length (written delta)) h.1 in
           open_at (written delta ++ take (n - length (written delta)) (base_of base)) (take n (written delta ++ base_of base)) (take_behind n (written delta) (base_of base) le)
           (record {
-            pieces = joined one rest.pieces;
-            is = found_append 0 false (written delta) (take (n - length (written delta)) (base_of base)) one (found_written false delta h.0) refl (omega (arith, size)) ∙ ap (λ q. joined one q) rest.is;
+            pieces = found_joined one rest.pieces;
+            is = found_append 0 false (written delta) (take (n - length (written delta)) (base_of base)) one (found_written false delta h.0) refl (omega (arith, size)) ∙ ap (λ q. found_joined one q) rest.is;
             unsealed = rest.unsealed;
             good = rest.good;
           })

@@ -3,18 +3,18 @@ use Rattle.std.proofs.Common.{◌≡◌, ℕ, Bool, true, false, Option, Some, N
 use Rattle.std.specs.Prelude.{IsOk}
 use Rattle.jr_disk.specs.declared.disk.DiskFault.{DiskFault}
 use Rattle.jr_disk.specs.declared.disk.Short.{Short}
-use Rattle.jr_disk.specs.declared.disk.Plan.{Plan}
-use Rattle.jr_disk.specs.declared.disk.Plan.TheVariants.{Stop, KeepBack, FailSync}
+use Rattle.jr_disk.specs.declared.disk.Failure.{Failure}
+use Rattle.jr_disk.specs.declared.disk.Failure.TheVariants.{Stop, KeepBack, FailSync}
 use Rattle.jr_disk.specs.Disk.{AppendsAs, SyncsAs, GoesAs}
 use Rattle.jr_journal.specs.inner.Disk.{is_calm}
-use Rattle.jr_journal.specs.Arranged.{is_quiet}
+use Rattle.jr_journal.specs.Arranged.{misses_failure}
 
 pub not_starved : (a b : Bool) → (a ≡ true → b ≡ true) → b ≡ false → a ≡ false
 not_starved true b h e = let clash : true ≡ false = sym (h refl) ∙ e in clash
 not_starved false b h e = refl
 
 abbrev pub Outlook : Type 0
-Outlook = Option (Option Plan)
+Outlook = Option (Option Failure)
 
 pub calm_sync : (o : Outlook) (r : Result (Unit {0}) DiskFault) (a : Outlook) → SyncsAs o r a → is_calm o ≡ true → IsOk r × (a ≡ o)
 calm_sync None r a h e = absurd cc
@@ -32,14 +32,14 @@ calm_append None n r a h e = absurd cc
 calm_append (Some None) n r a h e = h
 calm_append (Some (Some plan)) n r a h e = absurd cc
 
-pub quiet_calm : (o : Outlook) (fresh : Bool) → is_quiet o fresh ≡ true → is_calm o ≡ true
+pub quiet_calm : (o : Outlook) (fresh : Bool) → misses_failure o fresh ≡ true → is_calm o ≡ true
 quiet_calm None fresh e = absurd cc
 quiet_calm (Some None) fresh e = refl
 quiet_calm (Some (Some (Stop k))) fresh e = refl
 quiet_calm (Some (Some KeepBack)) fresh e = refl
 quiet_calm (Some (Some FailSync)) fresh e = absurd cc
 
-pub quiet_begin : (o : Outlook) → is_quiet o true ≡ true → o ≡ Some None
+pub quiet_begin : (o : Outlook) → misses_failure o true ≡ true → o ≡ Some None
 quiet_begin None e = absurd cc
 quiet_begin (Some None) e = refl
 quiet_begin (Some (Some (Stop k))) e = absurd cc

@@ -8,7 +8,7 @@ use Rattle.jr_journal.specs.declared.piece.Found.{Found}
 use Rattle.jr_journal.specs.declared.content.SlotContent.{SlotContent}
 use Rattle.jr_journal.specs.declared.content.SlotContent.TheVariants.{Alien, Unsealed, Sealed, Broken}
 use Rattle.std.specs.Str.{bytes_eq}
-use Rattle.jr_journal.specs.Records.{joined, found, magic, begins, after_header, slot_content}
+use Rattle.jr_journal.specs.Records.{found_joined, found, magic, begins, after_header, slot_content}
 use Rattle.jr_journal.proofs.Append.{found_append, found_cut}
 
 pub content_alien : (gateway : ℕ) (bytes : List ℕ) → begins gateway bytes ≡ false → Alien ≡ slot_content gateway bytes
@@ -108,16 +108,16 @@ abbrev pub IsFull : List ℕ → Found → Type 0
 IsFull bytes f = 13 + f.whole ≡ length bytes
 
 pub sealed_more : (gateway : ℕ) (xs ys : List ℕ) (generation : ℕ) (f q : Found) → IsSealed gateway xs generation f → IsFull xs f → found 0 true ys ≡ q → q.bad ≡ false → q.sealed ≡ true
-    → IsSealed gateway (xs ++ ys) generation (joined f q)
+    → IsSealed gateway (xs ++ ys) generation (found_joined f q)
 sealed_more gateway xs ys generation f q h full behind good seal =
     let long = h.long in
     let front : take 13 (xs ++ ys) ≡ take 13 xs = take-append-le 13 xs ys long in
     let place : drop 13 (xs ++ ys) ≡ drop 13 xs ++ ys = drop-append-le 13 xs ys long in
     let all : 0 + f.whole ≡ length (drop 13 xs) = omega (arith, length-drop 13 xs) in
-    let pieces : found 0 false (drop 13 xs ++ ys) ≡ joined f (found 0 f.sealed ys) = found_append 0 false (drop 13 xs) ys f h.pieces h.good all in
+    let pieces : found 0 false (drop 13 xs ++ ys) ≡ found_joined f (found 0 f.sealed ys) = found_append 0 false (drop 13 xs) ys f h.pieces h.good all in
     let rest : found 0 f.sealed ys ≡ q = ap (λ t. found 0 t ys) h.seal ∙ behind in
-    sealed_same gateway xs (xs ++ ys) generation f (joined f q) h (omega (arith, length-append xs ys)) front
-    (ap (λ zs. found 0 false zs) place ∙ (pieces ∙ ap (λ (r : Found). joined f r) rest)) good seal
+    sealed_same gateway xs (xs ++ ys) generation f (found_joined f q) h (omega (arith, length-append xs ys)) front
+    (ap (λ zs. found 0 false zs) place ∙ (pieces ∙ ap (λ (r : Found). found_joined f r) rest)) good seal
 
 -- the torn end of a sealed slot is cut away
 pub sealed_cut : (gateway : ℕ) (xs : List ℕ) (generation : ℕ) (f : Found) → IsSealed gateway xs generation f → IsSealed gateway (take (13 + f.whole) xs) generation f

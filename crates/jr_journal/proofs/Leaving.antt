@@ -12,7 +12,7 @@ use Rattle.jr_journal.specs.declared.content.SlotContent.TheVariants.{Unsealed}
 use Rattle.jr_journal.specs.declared.opening.Opening.{Opening}
 use Rattle.jr_journal.specs.declared.opening.Opening.TheVariants.{New, Held}
 use Rattle.jr_disk.specs.Disk.{SlotBytes, Slots, Image, replaced, bytes_of, image, all_synced, left_of, after_crash}
-use Rattle.jr_journal.specs.Records.{new_journal, magic, made, begins, after_header, found, slot_content, chosen, records}
+use Rattle.jr_journal.specs.Records.{new_journal, magic, found_of, begins, after_header, found, slot_content, chosen, records}
 use Rattle.jr_journal.specs.Faults.{is_fresh, slots_fault, fault_of}
 use Rattle.jr_journal.specs.Crashes.{OpensAlike, LeavesNoMore}
 use Rattle.jr_journal.specs.Opening.{synced_slots}
@@ -102,7 +102,7 @@ front_unsealed gateway n lt =
       | inl short ↦ sym (content_cut gateway xs (front_begins gateway n) short)
       | inr long ↦
           let none : drop 13 xs ≡ [] = drop_of_length-le xs {i = 13} (omega arith) in
-          let pieces : found 0 false (drop 13 xs) ≡ made [] false 0 false = ap (λ ys. found 0 false ys) none ∙ found_nothing 0 false in
+          let pieces : found 0 false (drop 13 xs) ≡ found_of [] false 0 false = ap (λ ys. found 0 false ys) none ∙ found_nothing 0 false in
           sym (content_whole gateway xs (front_begins gateway n) long) ∙ ap (λ r. after_header (from_be_bytes w64 (take 8 (drop 5 xs))) r) pieces
     ]
 
@@ -112,7 +112,7 @@ front_nothing gateway n =
       | inl lt ↦ ap (λ a. chosen a Unsealed) (front_unsealed gateway n lt)
       | inr le ↦
           let all : take n (new_journal gateway) ≡ new_journal gateway = take_all n (new_journal gateway) le in
-          ap (λ xs. chosen (slot_content gateway xs) Unsealed) all ∙ ap (λ a. chosen a Unsealed) (sealed_again gateway (new_journal gateway) 1 (made [] true 1 false) (new_sealed gateway))
+          ap (λ xs. chosen (slot_content gateway xs) Unsealed) all ∙ ap (λ a. chosen a Unsealed) (sealed_again gateway (new_journal gateway) 1 (found_of [] true 1 false) (new_sealed gateway))
     ]
 
 front_sound : (gateway n : ℕ) (i : Image) → i.second ≡ [] → i.first ≡ take n (new_journal gateway) → fault_of gateway i ≡ None
@@ -125,7 +125,7 @@ front_sound gateway n i none is =
           fault_is gateway i none ∙ (ap (λ a. slots_fault a Unsealed (nat_lt (length i.first) 14)) unsealed ∙ ap (λ b. slots_fault Unsealed Unsealed b) short)
       | inr le ↦
           let all : i.first ≡ new_journal gateway = is ∙ take_all n (new_journal gateway) le in
-          alone_sound gateway i 1 (made [] true 1 false) none (subst (λ (xs : List ℕ). IsSealed gateway xs 1 (made [] true 1 false)) (sym all) (new_sealed gateway))
+          alone_sound gateway i 1 (found_of [] true 1 false) none (subst (λ (xs : List ℕ). IsSealed gateway xs 1 (found_of [] true 1 false)) (sym all) (new_sealed gateway))
     ]
 
 abbrev begun : Slots → List ℕ → Slots

@@ -16,13 +16,13 @@ use Rattle.jr_journal.specs.declared.content.SlotContent.TheVariants.{Alien, Uns
 use Rattle.jr_journal.specs.declared.opening.Opening.{Opening}
 use Rattle.jr_journal.specs.declared.opening.Opening.TheVariants.{New, Held}
 use Rattle.jr_disk.specs.Disk.{SlotBytes, Slots, Image, at, replaced, bytes_of, image, cut_to}
-use Rattle.jr_journal.specs.Records.{new_journal, magic, piece_at, made, joined, one_seal, slot_content, generation_in, chosen, records}
+use Rattle.jr_journal.specs.Records.{new_journal, magic, piece_at, found_of, found_joined, one_seal, slot_content, generation_in, chosen, records}
 use Rattle.jr_journal.specs.Faults.{is_nil, is_fresh, slots_fault, fault_of}
 use Rattle.jr_journal.specs.Crashes.{Leaves, synced_bytes, reads_first, cut_end, recovered}
-use Rattle.jr_journal.specs.Journals.{other}
+use Rattle.jr_journal.specs.Journals.{other_slot}
 use Rattle.jr_journal.specs.Opening.{synced_slots, slot_read, generation_read}
-use Rattle.jr_journal.specs.inner.Journals.{is_below, is_in_use}
-use Rattle.jr_journal.specs.inner.Opening.{synced_image, opening_of, deltas_of, place_of, number_of, IsOpening, IsSized, settled, is_new}
+use Rattle.jr_journal.specs.inner.Journals.{is_older, is_in_use}
+use Rattle.jr_journal.specs.inner.Opening.{synced_image, opening_of, deltas_of, opening_slot, opening_generation, IsOpening, IsSized, settled, is_new}
 use Rattle.jr_journal.proofs.Pieces.{found_seal, found_nothing}
 use Rattle.jr_journal.proofs.Append.{found_inside}
 use Rattle.jr_journal.proofs.Contents.{IsSealed, sealed_shape, sealed_cut}
@@ -42,7 +42,7 @@ reads gateway i = reads_first (slot_content gateway i.first) (slot_content gatew
 abbrev pub Ruled : ℕ → Image → Opening → Type 0
 Ruled gateway i New = (is_fresh i ≡ true) × (slot_content gateway i.first ≡ Unsealed) × (slot_content gateway i.second ≡ Unsealed)
 Ruled gateway i (Held slot m f size) =
-    (slot_content gateway (image_at i slot) ≡ Sealed m f) × (is_below (slot_content gateway (image_at i (other slot))) m ≡ true) × (reads gateway i ≡ is_first slot)
+    (slot_content gateway (image_at i slot) ≡ Sealed m f) × (is_older (slot_content gateway (image_at i (other_slot slot))) m ≡ true) × (reads gateway i ≡ is_first slot)
     × (size ≡ length (image_at i slot))
 
 fresh_so : (b : Bool) → cond b None (Some Foreign) ≡ None → b ≡ true
@@ -67,20 +67,20 @@ module _ (gateway : ℕ) (i : Image) where
   by_both Unsealed Alien e g sound = absurd cc
   by_both Unsealed (Broken from) e g sound = absurd cc
   by_both Unsealed Unsealed e g sound = (fresh_so (is_fresh i) sound, e, g)
-  by_both Unsealed (Sealed n q) e g sound = (g, ap (λ c. is_below c n) e, ap (λ c. reads_first c (slot_content gateway i.second)) e, refl)
+  by_both Unsealed (Sealed n q) e g sound = (g, ap (λ c. is_older c n) e, ap (λ c. reads_first c (slot_content gateway i.second)) e, refl)
   by_both (Sealed m f) Alien e g sound = absurd cc
   by_both (Sealed m f) (Broken from) e g sound = absurd cc
   by_both (Sealed m f) Unsealed e g sound =
-      (e, ap (λ c. is_below c m) g, ap (λ c. reads_first c (slot_content gateway i.second)) e ∙ ap (λ c. reads_first (Sealed m f) c) g, refl)
+      (e, ap (λ c. is_older c m) g, ap (λ c. reads_first c (slot_content gateway i.second)) e ∙ ap (λ c. reads_first (Sealed m f) c) g, refl)
   by_both (Sealed m f) (Sealed n q) e g sound =
       let here : reads gateway i ≡ nat_lt n m = ap (λ c. reads_first c (slot_content gateway i.second)) e ∙ ap (λ c. reads_first (Sealed m f) c) g in
       let first = Held First m f (length i.first) in
       let second = Held Second n q (length i.second) in
       elim (cases_Bool (nat_lt n m)) [
-        | inl later ↦ subst (λ (b : Bool). Ruled gateway i (cond b first second)) (sym later) (e, ap (λ c. is_below c m) g ∙ later, here ∙ later, refl)
+        | inl later ↦ subst (λ (b : Bool). Ruled gateway i (cond b first second)) (sym later) (e, ap (λ c. is_older c m) g ∙ later, here ∙ later, refl)
         | inr sooner ↦
             subst (λ (b : Bool). Ruled gateway i (cond b first second)) (sym sooner)
-            (g, ap (λ c. is_below c n) e ∙ newer (nat_lt m n) (nat_lt n m) sound sooner, here ∙ sooner, refl)
+            (g, ap (λ c. is_older c n) e ∙ newer (nat_lt m n) (nat_lt n m) sound sooner, here ∙ sooner, refl)
       ]
 
 pub ruled : (gateway : ℕ) (i : Image) (o : Opening) → IsOpening gateway i o → Ruled gateway i o
@@ -111,7 +111,7 @@ opening_fresh gateway i o h = go o (ruled gateway i o h) where
 
 -- ---- which slot is read
 
-pub opening_place : (gateway : ℕ) (i : Image) (o : Opening) → IsOpening gateway i o → (place_of o ≡ slot_read gateway i) × (number_of o ≡ generation_read gateway i)
+pub opening_place : (gateway : ℕ) (i : Image) (o : Opening) → IsOpening gateway i o → (opening_slot o ≡ slot_read gateway i) × (opening_generation o ≡ generation_read gateway i)
 opening_place gateway i o h = go o (ruled gateway i o h) where
   m_first : ℕ
   m_first = generation_in (slot_content gateway i.first)
@@ -119,7 +119,7 @@ opening_place gateway i o h = go o (ruled gateway i o h) where
   m_second : ℕ
   m_second = generation_in (slot_content gateway i.second)
 
-  go : (o : Opening) → Ruled gateway i o → (place_of o ≡ slot_read gateway i) × (number_of o ≡ generation_read gateway i)
+  go : (o : Opening) → Ruled gateway i o → (opening_slot o ≡ slot_read gateway i) × (opening_generation o ≡ generation_read gateway i)
   go New r = (sym (ap (λ b. cond b First (cond (reads gateway i) First Second)) r.0), sym (ap (λ b. cond b 1 (cond (reads gateway i) m_first m_second)) r.0))
   go (Held First m f n) r =
       let stale = held_stale gateway i First m f r.0 in (
@@ -202,12 +202,12 @@ seal_piece : piece_at 83 [] ≡ Seal
 unfolding piece_at
 seal_piece = refl
 
-pub new_sealed : (gateway : ℕ) → IsSealed gateway (new_journal gateway) 1 (made [] true 1 false)
+pub new_sealed : (gateway : ℕ) → IsSealed gateway (new_journal gateway) 1 (found_of [] true 1 false)
 new_sealed gateway = record {
   header = begins_itself (magic gateway);
   long = omega arith;
   number = refl;
-  pieces = found_seal 83 [] seal_piece ∙ ap (λ q. joined one_seal q) (found_nothing 0 true);
+  pieces = found_seal 83 [] seal_piece ∙ ap (λ q. found_joined one_seal q) (found_nothing 0 true);
   good = refl;
   seal = refl;
 }
@@ -219,14 +219,14 @@ record IsOpened (gateway : ℕ) (d : Slots) (slot : Slot) (generation : ℕ) (de
 
 opened_new : (gateway : ℕ) (i : Image) → i.second ≡ [] → IsOpened gateway (pair (synced_bytes (new_journal gateway)) (synced_bytes i.second)) First 1 []
 opened_new gateway i none = record {
-  pieces = made [] true 1 false;
+  pieces = found_of [] true 1 false;
   used = record {
     first_clean = refl;
     second_clean = refl;
     sealed = new_sealed gateway;
     full = refl;
-    below = ap (λ a. is_below a 1) (ap (λ xs. slot_content gateway xs) none ∙ empty_unsealed gateway);
-    sound = alone_sound gateway (image_of (new_journal gateway) i.second) 1 (made [] true 1 false) none (new_sealed gateway);
+    below = ap (λ a. is_older a 1) (ap (λ xs. slot_content gateway xs) none ∙ empty_unsealed gateway);
+    sound = alone_sound gateway (image_of (new_journal gateway) i.second) 1 (found_of [] true 1 false) none (new_sealed gateway);
   };
   same = refl;
 }
@@ -237,7 +237,7 @@ cut_full gateway xs m f h =
     let within : 0 + f.whole ≤ length (drop 13 xs) = found_inside 0 false (drop 13 xs) f h.pieces (omega arith) in
     omega (arith, length-take (13 + f.whole) xs, length-drop 13 xs)
 
-opened_held : (gateway : ℕ) (i : Image) (slot : Slot) (m : ℕ) (f : Found) → IsSealed gateway (image_at i slot) m f → is_below (slot_content gateway (image_at i (other slot))) m ≡ true
+opened_held : (gateway : ℕ) (i : Image) (slot : Slot) (m : ℕ) (f : Found) → IsSealed gateway (image_at i slot) m f → is_older (slot_content gateway (image_at i (other_slot slot))) m ≡ true
     → IsOpened gateway (cut_at i slot f) slot m f.deltas
 opened_held gateway i First m f h below =
     let cut = sealed_cut gateway i.first m f h in
@@ -268,9 +268,9 @@ opened_held gateway i Second m f h below =
       same = refl;
     }
 
-opened : (gateway : ℕ) (i : Image) (o : Opening) → IsOpening gateway i o → IsOpened gateway (recovered gateway i) (place_of o) (number_of o) (deltas_of o)
+opened : (gateway : ℕ) (i : Image) (o : Opening) → IsOpening gateway i o → IsOpened gateway (recovered gateway i) (opening_slot o) (opening_generation o) (deltas_of o)
 opened gateway i o h = go o (ruled gateway i o h) where
-  go : (o : Opening) → Ruled gateway i o → IsOpened gateway (recovered gateway i) (place_of o) (number_of o) (deltas_of o)
+  go : (o : Opening) → Ruled gateway i o → IsOpened gateway (recovered gateway i) (opening_slot o) (opening_generation o) (deltas_of o)
   go New r = subst (λ (d : Slots). IsOpened gateway d First 1 []) (sym (recovered_new gateway i r.0)) (opened_new gateway i (fresh_empty i r.0))
   go (Held slot m f n) r =
       subst (λ (d : Slots). IsOpened gateway d slot m f.deltas) (sym (recovered_held gateway i slot m f r.0 r.2))
@@ -282,13 +282,13 @@ opening_records gateway i o h = go o (ruled gateway i o h) where
   go New r = sym (ap (λ a. chosen a (slot_content gateway i.second)) r.1 ∙ ap (λ b. chosen Unsealed b) r.2)
   go (Held slot m f n) r = sym (records_at gateway slot i m f (sealed_shape gateway (image_at i slot) m f r.0) r.1)
 
-pub recovered_in_use : (gateway : ℕ) (i : Image) (o : Opening) → IsOpening gateway i o → is_in_use gateway (place_of o) (number_of o) (recovered gateway i) ≡ true
-recovered_in_use gateway i o h = let p = opened gateway i o h in in_use_again gateway (place_of o) (recovered gateway i) (number_of o) p.pieces p.used
+pub recovered_in_use : (gateway : ℕ) (i : Image) (o : Opening) → IsOpening gateway i o → is_in_use gateway (opening_slot o) (opening_generation o) (recovered gateway i) ≡ true
+recovered_in_use gateway i o h = let p = opened gateway i o h in in_use_again gateway (opening_slot o) (recovered gateway i) (opening_generation o) p.pieces p.used
 
 pub recovered_leaves : (gateway : ℕ) (i : Image) (o : Opening) → IsOpening gateway i o → Leaves gateway (recovered gateway i) (deltas_of o)
 recovered_leaves gateway i o h =
     let p = opened gateway i o h in
-    subst (λ (xs : List (List Op)). Leaves gateway (recovered gateway i) xs) p.same (used_leaves gateway (place_of o) (recovered gateway i) (number_of o) p.pieces p.used)
+    subst (λ (xs : List (List Op)). Leaves gateway (recovered gateway i) xs) p.same (used_leaves gateway (opening_slot o) (recovered gateway i) (opening_generation o) p.pieces p.used)
 
 -- a cut after the end does nothing
 pub cut_nothing : (s : SlotBytes) (len : ℕ) → length (bytes_of s) ≤ len → s ≡ cut_to s len
@@ -314,11 +314,11 @@ all_steps gateway old synced read new o e same h step =
       opening = subst (λ (i : Image). IsOpening gateway i o) (ap image e ∙ synced_same old) h.0;
     }
 
-pub steps_in_use : (gateway : ℕ) (old new : Slots) (o : Opening) (slot : Slot) (generation : ℕ) → IsRecovered gateway old new o → slot ≡ place_of o → generation ≡ number_of o → is_in_use gateway slot generation new ≡ true
+pub steps_in_use : (gateway : ℕ) (old new : Slots) (o : Opening) (slot : Slot) (generation : ℕ) → IsRecovered gateway old new o → slot ≡ opening_slot o → generation ≡ opening_generation o → is_in_use gateway slot generation new ≡ true
 steps_in_use gateway old new o slot generation h place number =
     ap (λ d. is_in_use gateway slot generation d) h.known
     ∙ (ap (λ s. is_in_use gateway s generation (recovered gateway (image old))) place
-    ∙ (ap (λ n. is_in_use gateway (place_of o) n (recovered gateway (image old))) number ∙ recovered_in_use gateway (image old) o h.opening))
+    ∙ (ap (λ n. is_in_use gateway (opening_slot o) n (recovered gateway (image old))) number ∙ recovered_in_use gateway (image old) o h.opening))
 
 pub steps_leave : (gateway : ℕ) (old new : Slots) (o : Opening) (deltas : List (List Op)) → IsRecovered gateway old new o → deltas ≡ deltas_of o → Leaves gateway new deltas
 steps_leave gateway old new o deltas h same =

@@ -7,24 +7,24 @@ use Rattle.std.proofs.lemmas.List.{take-take, length-drop, drop-take}
 use Rattle.rep_op.specs.declared.op.Op.{Op}
 use Rattle.rep_op.specs.declared.fault.OpsFault.{OpsFault}
 use Rattle.rep_op.specs.declared.fault.OpsFault.TheVariants as faults
-use Rattle.rep_ops.specs.Reading.{reading}
+use Rattle.rep_ops.specs.Reading.{delta_reading}
 use Rattle.rep_read.specs.Reading.{Fails}
 use Rattle.rep_ops.specs.Spelling.{max_octets}
 use Rattle.jr_journal.specs.declared.piece.Piece.TheVariants.{Whole, Seal, Torn, Bad}
-use Rattle.jr_journal.specs.Records.{whole_if, delta_piece, body_at, record_at, piece_at, ended, joined, one_record, one_seal, found}
+use Rattle.jr_journal.specs.Records.{whole_if, delta_piece, piece_body_at, record_at, piece_at, ended, found_joined, one_record, one_seal, found}
 use Rattle.jr_journal.specs.inner.Records.{refusal}
 
 -- ---- a delta of so many bytes
 
-pub whole_piece : (size : ℕ) (rest : List ℕ) (delta : List Op) → reading (take size rest) ≡ Ok delta → Whole delta size ≡ delta_piece size rest
+pub whole_piece : (size : ℕ) (rest : List ℕ) (delta : List Op) → delta_reading (take size rest) ≡ Ok delta → Whole delta size ≡ delta_piece size rest
 unfolding delta_piece
 whole_piece size rest delta e = sym (ap (λ (r : Result (List Op) OpsFault). whole_if r size) e)
 
-bad_piece : (size : ℕ) (rest : List ℕ) (fault : OpsFault) → reading (take size rest) ≡ Err fault → Bad ≡ delta_piece size rest
+bad_piece : (size : ℕ) (rest : List ℕ) (fault : OpsFault) → delta_reading (take size rest) ≡ Err fault → Bad ≡ delta_piece size rest
 unfolding delta_piece
 bad_piece size rest fault e = sym (ap (λ (r : Result (List Op) OpsFault). whole_if r size) e)
 
-pub refused_piece : (fault : OpsFault) (size : ℕ) (rest : List ℕ) → Fails fault (reading (take size rest)) → IfSome (refusal fault) (λ piece. piece ≡ delta_piece size rest)
+pub refused_piece : (fault : OpsFault) (size : ℕ) (rest : List ℕ) → Fails fault (delta_reading (take size rest)) → IfSome (refusal fault) (λ piece. piece ≡ delta_piece size rest)
 refused_piece faults.Twice size rest h = bad_piece size rest faults.Twice h
 refused_piece faults.Limit size rest h = bad_piece size rest faults.Limit h
 refused_piece faults.Memory size rest h = tt
@@ -46,9 +46,9 @@ pub record IsRecord (tag : ℕ) (rest : List ℕ) (delta : List Op) (n : ℕ) : 
   pub inside : 4 + n ≤ length rest
   pub size : from_be_bytes w32 (take 4 rest) ≡ n
   pub limit : n ≤ max_octets
-  pub read : reading (take n (drop 4 rest)) ≡ Ok delta
+  pub read : delta_reading (take n (drop 4 rest)) ≡ Ok delta
 
-body_shape : (size : ℕ) (rest : List ℕ) (delta : List Op) (n : ℕ) → body_at size rest ≡ Whole delta n → (size ≡ n) × (n ≤ max_octets) × (n ≤ length rest) × (reading (take n rest) ≡ Ok delta)
+body_shape : (size : ℕ) (rest : List ℕ) (delta : List Op) (n : ℕ) → piece_body_at size rest ≡ Whole delta n → (size ≡ n) × (n ≤ max_octets) × (n ≤ length rest) × (delta_reading (take n rest) ≡ Ok delta)
 unfolding delta_piece
 body_shape size rest delta n e =
     elim (cases_Bool (nat_lt max_octets size)) [
@@ -58,9 +58,9 @@ body_shape size rest delta n e =
           elim (cases_Bool (nat_lt (length rest) size)) [
             | inl short ↦ absurd (let wrong : Torn ≡ Whole delta n = rw short at e2 in cc)
             | inr long ↦
-                let e3 : whole_if (reading (take size rest)) size ≡ Whole delta n = rw long at e2 in
-                let d = delta_shape (reading (take size rest)) size delta n e3 in
-                (d.1, (omega (arith, ltb-false _ _ small, d.1)), omega (arith, ltb-false _ _ long, d.1), sym (ap (λ k. reading (take k rest)) d.1) ∙ d.0)
+                let e3 : whole_if (delta_reading (take size rest)) size ≡ Whole delta n = rw long at e2 in
+                let d = delta_shape (delta_reading (take size rest)) size delta n e3 in
+                (d.1, (omega (arith, ltb-false _ _ small, d.1)), omega (arith, ltb-false _ _ long, d.1), sym (ap (λ k. delta_reading (take k rest)) d.1) ∙ d.0)
           ]
     ]
 
@@ -73,7 +73,7 @@ record_shape tag rest delta n e =
           elim (cases_Bool (nat_lt (length rest) 4)) [
             | inl short ↦ absurd (let wrong : Torn ≡ Whole delta n = rw short at e1 in cc)
             | inr long ↦
-                let e2 : body_at (from_be_bytes w32 (take 4 rest)) (drop 4 rest) ≡ Whole delta n = rw long at e1 in
+                let e2 : piece_body_at (from_be_bytes w32 (take 4 rest)) (drop 4 rest) ≡ Whole delta n = rw long at e1 in
                 let b = body_shape (from_be_bytes w32 (take 4 rest)) (drop 4 rest) delta n e2 in
                 let four : 4 ≤ length rest = ltb-false _ _ long in
                 record { tag_is = is; inside = omega (arith, b.2, length-drop 4 rest); size = b.0; limit = b.1; read = b.3 }
@@ -92,9 +92,9 @@ record_again tag rest delta n h =
     let long : nat_lt (length rest) 4 ≡ false = le-ltb (length rest) 4 (let i = h.inside in omega arith) in
     let small : nat_lt max_octets n ≡ false = le-ltb max_octets n h.limit in
     let inside : nat_lt (length (drop 4 rest)) n ≡ false = le-ltb (length (drop 4 rest)) n (let i = h.inside in omega (arith, length-drop 4 rest)) in
-    let first : piece_at tag rest ≡ body_at (from_be_bytes w32 (take 4 rest)) (drop 4 rest) = rw (h.tag_is, long) refl in
-    let second : body_at (from_be_bytes w32 (take 4 rest)) (drop 4 rest) ≡ body_at n (drop 4 rest) = ap (λ k. body_at k (drop 4 rest)) h.size in
-    let third : body_at n (drop 4 rest) ≡ Whole delta n = rw (small, inside, h.read) refl in
+    let first : piece_at tag rest ≡ piece_body_at (from_be_bytes w32 (take 4 rest)) (drop 4 rest) = rw (h.tag_is, long) refl in
+    let second : piece_body_at (from_be_bytes w32 (take 4 rest)) (drop 4 rest) ≡ piece_body_at n (drop 4 rest) = ap (λ k. piece_body_at k (drop 4 rest)) h.size in
+    let third : piece_body_at n (drop 4 rest) ≡ Whole delta n = rw (small, inside, h.read) refl in
     first ∙ (second ∙ third)
 
 -- a record is read from its own bytes alone
@@ -111,14 +111,14 @@ record_same tag xs ys delta n h inside same =
       inside = inside;
       size = ap (λ zs. from_be_bytes w32 zs) front ∙ h.size;
       limit = h.limit;
-      read = ap (λ zs. reading zs) back ∙ h.read;
+      read = ap (λ zs. delta_reading zs) back ∙ h.read;
     }
 
 delta_not_seal : (r : Result (List Op) OpsFault) (size : ℕ) → whole_if r size ≡ Seal → ⊥
 delta_not_seal (Ok d) size e = cc
 delta_not_seal (Err fault) size e = cc
 
-body_not_seal : (size : ℕ) (rest : List ℕ) → body_at size rest ≡ Seal → ⊥
+body_not_seal : (size : ℕ) (rest : List ℕ) → piece_body_at size rest ≡ Seal → ⊥
 unfolding delta_piece
 body_not_seal size rest e =
     elim (cases_Bool (nat_lt max_octets size)) [
@@ -127,7 +127,7 @@ body_not_seal size rest e =
           let e2 : cond (nat_lt (length rest) size) Torn (delta_piece size rest) ≡ Seal = rw small at e in
           elim (cases_Bool (nat_lt (length rest) size)) [
             | inl short ↦ (let wrong : Torn ≡ Seal = rw short at e2 in cc)
-            | inr long ↦ let e3 : whole_if (reading (take size rest)) size ≡ Seal = rw long at e2 in delta_not_seal (reading (take size rest)) size e3
+            | inr long ↦ let e3 : whole_if (delta_reading (take size rest)) size ≡ Seal = rw long at e2 in delta_not_seal (delta_reading (take size rest)) size e3
           ]
     ]
 
@@ -140,7 +140,7 @@ seal_same tag xs ys e =
           let e1 : record_at xs ≡ Seal = rw is at e in
           elim (cases_Bool (nat_lt (length xs) 4)) [
             | inl short ↦ absurd (let wrong : Torn ≡ Seal = rw short at e1 in cc)
-            | inr long ↦ absurd (let e2 : body_at (from_be_bytes w32 (take 4 xs)) (drop 4 xs) ≡ Seal = rw long at e1 in body_not_seal (from_be_bytes w32 (take 4 xs)) (drop 4 xs) e2)
+            | inr long ↦ absurd (let e2 : piece_body_at (from_be_bytes w32 (take 4 xs)) (drop 4 xs) ≡ Seal = rw long at e1 in body_not_seal (from_be_bytes w32 (take 4 xs)) (drop 4 xs) e2)
           ]
       | inr other ↦
           let e1 : cond (tag == 83) Seal Bad ≡ Seal = rw other at e in
@@ -149,11 +149,11 @@ seal_same tag xs ys e =
 
 -- ---- one piece after the other
 
-pub found_record : (sealed : Bool) (b : ℕ) (rest : List ℕ) (delta : List Op) (n : ℕ) → piece_at b rest ≡ Whole delta n → found 0 sealed (b ∷ rest) ≡ joined (one_record delta n sealed) (found (4 + n) sealed rest)
+pub found_record : (sealed : Bool) (b : ℕ) (rest : List ℕ) (delta : List Op) (n : ℕ) → piece_at b rest ≡ Whole delta n → found 0 sealed (b ∷ rest) ≡ found_joined (one_record delta n sealed) (found (4 + n) sealed rest)
 unfolding found
 found_record sealed b rest delta n e = rw e refl
 
-pub found_seal : (b : ℕ) (rest : List ℕ) → piece_at b rest ≡ Seal → found 0 false (b ∷ rest) ≡ joined one_seal (found 0 true rest)
+pub found_seal : (b : ℕ) (rest : List ℕ) → piece_at b rest ≡ Seal → found 0 false (b ∷ rest) ≡ found_joined one_seal (found 0 true rest)
 unfolding found
 found_seal b rest e = rw e refl
 

@@ -7,10 +7,10 @@ use Rattle.rep_op.specs.declared.op.Op.{Op}
 use Rattle.jr_disk.specs.declared.disk.Slot.{Slot}
 use Rattle.jr_journal.specs.declared.piece.Found.{Found}
 use Rattle.jr_disk.specs.Disk.{Slots, at, replaced, image, appended, all_synced, after_crash}
-use Rattle.jr_journal.specs.Records.{delta_bytes, written, written_all, ended, joined, one_record, found, records}
+use Rattle.jr_journal.specs.Records.{delta_bytes, written, written_all, ended, found_joined, one_record, found, records}
 use Rattle.jr_journal.specs.Readable.{IsReadable, deltas_in, AreRecords}
 use Rattle.jr_journal.specs.Crashes.{Leaves, LeavesSome}
-use Rattle.jr_journal.specs.Journals.{other}
+use Rattle.jr_journal.specs.Journals.{other_slot}
 use Rattle.jr_journal.specs.Faults.{fault_of}
 use Rattle.jr_journal.specs.inner.Journals.{is_in_use}
 use Rattle.jr_journal.proofs.Pieces.{found_nothing}
@@ -82,8 +82,8 @@ front_of (delta ∷ deltas) n h =
           let rest = front_of deltas (n - length (written delta)) h.1 in
           front_at (delta ∷ deltas) (written delta ++ take (n - length (written delta)) (written_all deltas)) (take n (written delta ++ written_all deltas)) (take_behind n (written delta) (written_all deltas) le)
           (record {
-            pieces = joined one rest.pieces;
-            is = found_append 0 true (written delta) (take (n - length (written delta)) (written_all deltas)) one (found_written true delta h.0) refl (omega (arith, size)) ∙ ap (λ q. joined one q) rest.is;
+            pieces = found_joined one rest.pieces;
+            is = found_append 0 true (written delta) (take (n - length (written delta)) (written_all deltas)) one (found_written true delta h.0) refl (omega (arith, size)) ∙ ap (λ q. found_joined one q) rest.is;
             sealed = rest.sealed;
             good = rest.good;
             count = suc rest.count;
@@ -99,14 +99,14 @@ some_leaves gateway slot d m f deltas w h readable = λ k l.
     let c = crash_more slot d (take w bytes) k l h.first_clean h.second_clean in
     let front : image_at (after_crash k l new) slot ≡ (at d slot).synced ++ take (min c.0 w) bytes = c.1 ∙ ap (λ ys. (at d slot).synced ++ ys) (take_both c.0 w bytes) in
     let s = front_of deltas (min c.0 w) readable in
-    let q : Found = joined f s.pieces in
+    let q : Found = found_joined f s.pieces in
     let sealed : IsSealed gateway (image_at (after_crash k l new) slot) m q =
     sealed_at gateway ((at d slot).synced ++ take (min c.0 w) bytes) (image_at (after_crash k l new) slot) m q front
     (sealed_more gateway (at d slot).synced (take (min c.0 w) bytes) m f s.pieces h.sealed h.full s.is s.good s.sealed) in
     let sound : fault_of gateway (after_crash k l new) ≡ None = more_sound gateway slot d (after_crash k l new) m f q h.sealed sealed c.2 h.sound in
     let now : records gateway (after_crash k l new) ≡ q.deltas =
     records_at gateway slot (after_crash k l new) m q sealed
-    (below_at gateway (at d (other slot)).synced (image_at (after_crash k l new) (other slot)) m c.2 h.below) in
+    (below_at gateway (at d (other_slot slot)).synced (image_at (after_crash k l new) (other_slot slot)) m c.2 h.below) in
     let before : f.deltas ≡ records gateway (image d) = sym (used_records gateway slot d m f h) in
     let are : q.deltas ≡ records gateway (image d) ++ take s.count deltas = ap (λ ds. f.deltas ++ ds) s.deltas_are ∙ ap (λ ds. ds ++ take s.count deltas) before in
     (s.count, (now ∙ are, sound, not_fresh gateway slot (after_crash k l new) m q sealed))
@@ -114,7 +114,7 @@ some_leaves gateway slot d m f deltas w h readable = λ k l.
 -- ---- and synced
 
 several_used : (gateway : ℕ) (slot : Slot) (d : Slots) (m : ℕ) (f : Found) (deltas : List (List Op)) → IsUsed gateway slot d m f → AllByRecursion IsReadable deltas
-    → IsUsed gateway slot (replaced d slot (all_synced (appended (at d slot) (written_all deltas)))) m (joined f (many true deltas))
+    → IsUsed gateway slot (replaced d slot (all_synced (appended (at d slot) (written_all deltas)))) m (found_joined f (many true deltas))
 several_used gateway slot d m f deltas h readable =
     let bytes = written_all deltas in
     let all = many true deltas in
@@ -123,12 +123,12 @@ several_used gateway slot d m f deltas h readable =
     let is : s.synced ≡ (at d slot).synced ++ bytes = ap (λ xs. (at d slot).synced ++ (xs ++ bytes)) clean in
     let full = h.full in
     let size : length s.synced ≡ length ((at d slot).synced ++ bytes) = ap length is in
-    let sealed : IsSealed gateway s.synced m (joined f all) =
-    sealed_at gateway ((at d slot).synced ++ bytes) s.synced m (joined f all) is
+    let sealed : IsSealed gateway s.synced m (found_joined f all) =
+    sealed_at gateway ((at d slot).synced ++ bytes) s.synced m (found_joined f all) is
     (sealed_more gateway (at d slot).synced bytes m f all h.sealed h.full (found_many true deltas readable) refl refl) in
-    replaced_used gateway slot d s m (joined f all) h.first_clean h.second_clean refl sealed
+    replaced_used gateway slot d s m (found_joined f all) h.first_clean h.second_clean refl sealed
     (omega (arith, length-append (at d slot).synced bytes)) h.below
-    (replaced_sound gateway slot d s m f (joined f all) h.sealed sealed h.sound)
+    (replaced_sound gateway slot d s m f (found_joined f all) h.sealed sealed h.sound)
 
 -- ---- the exits of an append of several records
 
@@ -146,7 +146,7 @@ module _ (gateway : ℕ) (slot : Slot) (generation : ℕ) (halted : Bool) (old n
   abbrev done : Slots
   done = replaced old slot (all_synced (appended (at old slot) (written_all deltas)))
 
-  used_now : IsUsed gateway slot done generation (joined in_use.0 (many true deltas))
+  used_now : IsUsed gateway slot done generation (found_joined in_use.0 (many true deltas))
   used_now = several_used gateway slot old generation in_use.0 deltas in_use.1 h.readable
 
   now_is : new ≡ replaced old slot (all_synced (appended (at old slot) bytes)) → new ≡ done
@@ -158,11 +158,11 @@ module _ (gateway : ℕ) (slot : Slot) (generation : ℕ) (halted : Bool) (old n
       subst (λ (d : Slots). LeavesSome gateway d (records gateway (image old)) deltas) (sym more) (some_leaves gateway slot old generation in_use.0 deltas w in_use.1 h.readable)
 
   pub several_settles : new ≡ replaced old slot (all_synced (appended (at old slot) bytes)) → is_in_use gateway slot generation new ≡ true
-  several_settles e = ap (λ d. is_in_use gateway slot generation d) (now_is e) ∙ in_use_again gateway slot done generation (joined in_use.0 (many true deltas)) used_now
+  several_settles e = ap (λ d. is_in_use gateway slot generation d) (now_is e) ∙ in_use_again gateway slot done generation (found_joined in_use.0 (many true deltas)) used_now
 
   pub several_durable : new ≡ replaced old slot (all_synced (appended (at old slot) bytes)) → Leaves gateway new (records gateway (image old) ++ deltas)
   several_durable e =
       let before : in_use.0.deltas ≡ records gateway (image old) = sym (used_records gateway slot old generation in_use.0 in_use.1) in
-      let leaves = used_leaves gateway slot done generation (joined in_use.0 (many true deltas)) used_now in
+      let leaves = used_leaves gateway slot done generation (found_joined in_use.0 (many true deltas)) used_now in
       subst (λ (d : Slots). Leaves gateway d (records gateway (image old) ++ deltas)) (sym (now_is e))
       (subst (λ (xs : List (List Op)). Leaves gateway done (xs ++ deltas)) before leaves)

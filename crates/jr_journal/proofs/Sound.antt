@@ -15,8 +15,8 @@ use Rattle.jr_journal.specs.inner.Disk.{synced_part}
 use Rattle.jr_journal.specs.Records.{found, slot_content}
 use Rattle.jr_journal.specs.Faults.{is_nil, is_fresh, slots_fault, fault_of}
 use Rattle.jr_journal.specs.inner.Faults.{is_none}
-use Rattle.jr_journal.specs.Journals.{other}
-use Rattle.jr_journal.specs.inner.Journals.{is_below}
+use Rattle.jr_journal.specs.Journals.{other_slot}
+use Rattle.jr_journal.specs.inner.Journals.{is_older}
 use Rattle.jr_journal.proofs.Pieces.{found_nothing}
 use Rattle.jr_journal.proofs.Contents.{IsSealed, sealed_again}
 
@@ -76,7 +76,7 @@ stays_second gateway i j m f q h r same e =
     ap (λ b. slots_fault (slot_content gateway j.first) b (is_fresh j)) (sealed_again gateway j.second m q r)
     ∙ (ap (λ ys. slots_fault (slot_content gateway ys) (Sealed m q) (is_fresh j)) same ∙ sealed_behind beside m f q (is_fresh i) (is_fresh j) before)
 
-pub more_sound : (gateway : ℕ) (slot : Slot) (d : Slots) (j : Image) (m : ℕ) (f q : Found) → IsSealed gateway (at d slot).synced m f → IsSealed gateway (image_at j slot) m q → image_at j (other slot) ≡ (at d (other slot)).synced
+pub more_sound : (gateway : ℕ) (slot : Slot) (d : Slots) (j : Image) (m : ℕ) (f q : Found) → IsSealed gateway (at d slot).synced m f → IsSealed gateway (image_at j slot) m q → image_at j (other_slot slot) ≡ (at d (other_slot slot)).synced
     → fault_of gateway (synced_part d) ≡ None → fault_of gateway j ≡ None
 more_sound gateway First d j m f q h r same e = stays_first gateway (synced_part d) j m f q h r same e
 more_sound gateway Second d j m f q h r same e = stays_second gateway (synced_part d) j m f q h r same e
@@ -100,20 +100,20 @@ newer_first : (p q : Bool) → p ≡ true → verdict p q ≡ None
 newer_first true q e = refl
 newer_first false q e = absurd cc
 
-beside_below : (b : SlotContent) (m : ℕ) (f : Found) (x : Bool) → is_below b m ≡ true → slots_fault (Sealed m f) b x ≡ None
+beside_below : (b : SlotContent) (m : ℕ) (f : Found) (x : Bool) → is_older b m ≡ true → slots_fault (Sealed m f) b x ≡ None
 beside_below Alien m f x e = absurd cc
 beside_below Unsealed m f x e = refl
 beside_below (Sealed n g) m f x e = newer_second (nat_lt m n) (nat_lt n m) e
 beside_below (Broken from) m f x e = absurd cc
 
-below_beside : (a : SlotContent) (m : ℕ) (f : Found) (x : Bool) → is_below a m ≡ true → slots_fault a (Sealed m f) x ≡ None
+below_beside : (a : SlotContent) (m : ℕ) (f : Found) (x : Bool) → is_older a m ≡ true → slots_fault a (Sealed m f) x ≡ None
 below_beside Alien m f x e = absurd cc
 below_beside Unsealed m f x e = refl
 below_beside (Sealed n g) m f x e = newer_first (nat_lt n m) (nat_lt m n) e
 below_beside (Broken from) m f x e = absurd cc
 
 -- the slot is sealed, and beside it nothing is read: there is no fault
-pub used_sound : (gateway : ℕ) (slot : Slot) (i : Image) (m : ℕ) (f : Found) → IsSealed gateway (image_at i slot) m f → is_below (slot_content gateway (image_at i (other slot))) m ≡ true → fault_of gateway i ≡ None
+pub used_sound : (gateway : ℕ) (slot : Slot) (i : Image) (m : ℕ) (f : Found) → IsSealed gateway (image_at i slot) m f → is_older (slot_content gateway (image_at i (other_slot slot))) m ≡ true → fault_of gateway i ≡ None
 used_sound gateway First i m f h e = ap (λ a. slots_fault a (slot_content gateway i.second) (is_fresh i)) (sealed_again gateway i.first m f h) ∙ beside_below (slot_content gateway i.second) m f (is_fresh i) e
 used_sound gateway Second i m f h e = ap (λ b. slots_fault (slot_content gateway i.first) b (is_fresh i)) (sealed_again gateway i.second m f h) ∙ below_beside (slot_content gateway i.first) m f (is_fresh i) e
 

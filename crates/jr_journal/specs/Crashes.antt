@@ -2,7 +2,7 @@
 use Rattle.std.specs.Prelude.{None, ◌≡◌, ◌⊎◌, ℕ, ◌+◌, Bool, true, false, if◌then◌else◌, nat_lt, List, [], ◌∷◌, ◌++◌, take}
 use Rattle.rep_op.specs.declared.op.Op.{Op}
 use Rattle.jr_journal.specs.declared.content.SlotContent.{SlotContent}
-use Rattle.jr_journal.specs.declared.content.SlotContent.TheVariants.{Alien, Unsealed, Sealed, Broken}
+use Rattle.jr_journal.specs.declared.content.SlotContent.TheVariants.{Sealed}
 use Rattle.jr_disk.specs.Disk.{SlotBytes, Slots, Image, after_crash, EachCrash}
 use Rattle.jr_journal.specs.Records.{new_journal, slot_content, records}
 use Rattle.jr_journal.specs.Faults.{is_fresh, fault_of}
@@ -54,19 +54,13 @@ synced_bytes bytes = record { synced = bytes; unsynced = [] }
 -- whether the first slot is the one that is read
 abbrev pub reads_first : SlotContent → SlotContent → Bool
 reads_first (Sealed m f) (Sealed n g) = nat_lt n m
-reads_first (Sealed m f) Alien = true
-reads_first (Sealed m f) Unsealed = true
-reads_first (Sealed m f) (Broken from) = true
-reads_first Alien other = false
-reads_first Unsealed other = false
-reads_first (Broken at) other = false
+reads_first (Sealed m f) other = true
+reads_first content other = false
 
 -- the bytes of a slot without what comes after its whole pieces
 abbrev pub cut_end : SlotContent → List ℕ → List ℕ
 cut_end (Sealed m f) bytes = take (13 + f.whole) bytes
-cut_end Alien bytes = bytes
-cut_end Unsealed bytes = bytes
-cut_end (Broken at) bytes = bytes
+cut_end content bytes = bytes
 
 -- The slots of an opened journal, all synced. If there was no journal, it begins in the first slot.
 -- Else the torn end of the slot that is read is cut away.

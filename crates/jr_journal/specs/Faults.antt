@@ -37,12 +37,12 @@ fault_of gateway i =
 
 -- It is the fault of the image. That memory ran out, or that the disk failed, says nothing of the
 -- image.
-abbrev pub IsFault : Option JournalFault → JournalFault → Type 0
-IsFault fault Disk = Unit {0}
-IsFault fault Memory = Unit {0}
-IsFault fault Foreign = fault ≡ Some Foreign
-IsFault fault (BadRecord slot at) = fault ≡ Some (BadRecord slot at)
-IsFault fault Halted = fault ≡ Some Halted
+abbrev pub IsImageFault : Option JournalFault → JournalFault → Type 0
+IsImageFault fault Disk = Unit {0}
+IsImageFault fault Memory = Unit {0}
+IsImageFault fault Foreign = fault ≡ Some Foreign
+IsImageFault fault (BadRecord slot at) = fault ≡ Some (BadRecord slot at)
+IsImageFault fault Halted = fault ≡ Some Halted
 
 -- the number by which programs print a fault, with a `J` in front of it
 abbrev pub fault_number : JournalFault → ℕ

@@ -10,9 +10,9 @@ use Rattle.jr_disk.specs.Disk.{Slots, at, replaced, cut_to}
 -- ---- slots and generations
 
 -- the other of the two slots
-abbrev pub other : Slot → Slot
-other First = Second
-other Second = First
+abbrev pub other_slot : Slot → Slot
+other_slot First = Second
+other_slot Second = First
 
 -- the slots once this one is cut to nothing
 abbrev pub emptied : Slots → Slot → Slots
@@ -29,38 +29,28 @@ abbrev pub IsAppendFault : JournalFault → Type 0
 IsAppendFault Disk = Unit {0}
 IsAppendFault Memory = Unit {0}
 IsAppendFault Halted = Unit {0}
-IsAppendFault Foreign = ⊥
-IsAppendFault (BadRecord place from) = ⊥
+IsAppendFault fault = ⊥
 
 -- a fault that an append of several records may report: Disk or Halted
 abbrev pub IsWriteFault : JournalFault → Type 0
 IsWriteFault Disk = Unit {0}
 IsWriteFault Halted = Unit {0}
-IsWriteFault Memory = ⊥
-IsWriteFault Foreign = ⊥
-IsWriteFault (BadRecord place from) = ⊥
+IsWriteFault fault = ⊥
 
 -- a fault that a compaction may report: those of an append, and Foreign
 abbrev pub IsCompactFault : JournalFault → Type 0
-IsCompactFault Disk = Unit {0}
-IsCompactFault Memory = Unit {0}
-IsCompactFault Halted = Unit {0}
-IsCompactFault Foreign = Unit {0}
 IsCompactFault (BadRecord place from) = ⊥
+IsCompactFault fault = Unit {0}
 
 -- a compaction was done, or the disk failed in it
 abbrev pub IsTried : Result (Unit {0}) JournalFault → Type 0
 IsTried (Ok done) = Unit {0}
 IsTried (Err Disk) = Unit {0}
-IsTried (Err Memory) = ⊥
-IsTried (Err Halted) = ⊥
-IsTried (Err Foreign) = ⊥
-IsTried (Err (BadRecord place from)) = ⊥
+IsTried result = ⊥
 
 -- a fault that a call reports before it has written anything: Memory, Halted or Foreign
 abbrev pub IsBeforeWriting : JournalFault → Type 0
-IsBeforeWriting Disk = ⊥
 IsBeforeWriting Memory = Unit {0}
 IsBeforeWriting Halted = Unit {0}
 IsBeforeWriting Foreign = Unit {0}
-IsBeforeWriting (BadRecord place from) = ⊥
+IsBeforeWriting fault = ⊥

@@ -5,8 +5,8 @@ use Rattle.jr_disk.specs.declared.disk.Slot.{Slot}
 use Rattle.jr_journal.specs.declared.journal.Journal.{Journal}
 
 -- the disk that a journal is on
-abbrev pub disk_of : {D : Type 0} {G : Ghosts D} → Journal D G → D
-disk_of journal = journal.disk
+abbrev pub disk_under : {D : Type 0} {G : Ghosts D} → Journal D G → D
+disk_under journal = journal.disk
 
 -- the number of the gateway that a journal is of
 abbrev pub gateway_of : {D : Type 0} {G : Ghosts D} → Journal D G → ℕ
@@ -21,5 +21,5 @@ abbrev pub generation_of : {D : Type 0} {G : Ghosts D} → Journal D G → ℕ
 generation_of journal = journal.generation
 
 -- whether a write has failed since it was opened, or a try to open it again, or it was halted
-abbrev pub is_halted : {D : Type 0} {G : Ghosts D} → Journal D G → Bool
-is_halted journal = journal.halted
+abbrev pub is_stopped : {D : Type 0} {G : Ghosts D} → Journal D G → Bool
+is_stopped journal = journal.halted

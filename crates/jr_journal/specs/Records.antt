@@ -5,8 +5,8 @@ use Rattle.std.specs.Str.{bytes_eq}
 use Rattle.byteorder.specs.Endian.{big_bytes}
 use Rattle.rep_op.specs.declared.op.Op.{Op}
 use Rattle.rep_op.specs.declared.fault.OpsFault.{OpsFault}
-use Rattle.rep_ops.specs.Reading.{reading}
-use Rattle.rep_ops.specs.Spelling.{spelling, max_octets}
+use Rattle.rep_ops.specs.Reading.{delta_reading}
+use Rattle.rep_ops.specs.Spelling.{delta_spelling, max_octets}
 use Rattle.jr_journal.specs.declared.piece.Piece.{Piece}
 use Rattle.jr_journal.specs.declared.piece.Piece.TheVariants.{Whole, Seal, Torn, Bad}
 use Rattle.jr_journal.specs.declared.piece.Found.{Found}
@@ -18,7 +18,7 @@ use Rattle.jr_disk.specs.Disk.{Image}
 
 -- the bytes of a delta
 unfoldable pub delta_bytes : List Op → List ℕ
-delta_bytes delta = spelling delta
+delta_bytes delta = delta_spelling delta
 
 -- a record: its tag, 44 in hexadecimal, its length in four bytes, the delta's bytes
 abbrev pub written : List Op → List ℕ
@@ -53,18 +53,19 @@ whole_if (Err fault) size = Bad
 
 -- the piece that so many bytes of delta make: a whole record if they can be read, else bad
 unfoldable pub delta_piece : ℕ → List ℕ → Piece
-delta_piece size rest = whole_if (reading (take size rest)) size
+delta_piece size rest = whole_if (delta_reading (take size rest)) size
 
 -- the piece of a record with so many bytes of delta: bad above 8 MiB, torn if bytes are missing
-abbrev pub body_at : ℕ → List ℕ → Piece
-body_at size rest =
+abbrev pub piece_body_at : ℕ → List ℕ → Piece
+piece_body_at size rest =
     if nat_lt max_octets size then Bad
     else (if nat_lt (length rest) size then Torn else delta_piece size rest)
 
 -- the piece of a record, after its tag: torn if its length is not there
 abbrev pub record_at : List ℕ → Piece
 record_at rest =
-    if nat_lt (length rest) 4 then Torn else body_at (from_be_bytes w32 (take 4 rest)) (drop 4 rest)
+    if nat_lt (length rest) 4 then Torn
+    else piece_body_at (from_be_bytes w32 (take 4 rest)) (drop 4 rest)
 
 -- the piece that begins with this byte: a record, the seal, or bad
 unfoldable pub piece_at : ℕ → List ℕ → Piece
@@ -79,24 +80,25 @@ match_piece Bad whole seal torn bad = bad
 
 -- what was found: deltas, whether the seal was among them, how many bytes, and whether a bad piece
 -- follows
-abbrev pub made : List (List Op) → Bool → ℕ → Bool → Found
-made deltas sealed whole bad = record { deltas = deltas; sealed = sealed; whole = whole; bad = bad }
+abbrev pub found_of : List (List Op) → Bool → ℕ → Bool → Found
+found_of deltas sealed whole bad =
+    record { deltas = deltas; sealed = sealed; whole = whole; bad = bad }
 
 -- nothing more is there, or what comes next may not be there
 abbrev pub ended : Bool → Bool → Found
-ended sealed bad = made [] sealed 0 bad
+ended sealed bad = found_of [] sealed 0 bad
 
 -- what was found, and then what was found after it
-abbrev pub joined : Found → Found → Found
-joined r q = made (r.deltas ++ q.deltas) q.sealed (r.whole + q.whole) q.bad
+abbrev pub found_joined : Found → Found → Found
+found_joined r q = found_of (r.deltas ++ q.deltas) q.sealed (r.whole + q.whole) q.bad
 
 -- what is found in one whole record: its delta, and its bytes with the five in front of the delta
 abbrev pub one_record : List Op → ℕ → Bool → Found
-one_record delta size sealed = made (delta ∷ []) sealed (5 + size) false
+one_record delta size sealed = found_of (delta ∷ []) sealed (5 + size) false
 
 -- what is found in the seal: one byte, and no delta
 abbrev pub one_seal : Found
-one_seal = made [] true 1 false
+one_seal = found_of [] true 1 false
 
 -- The whole pieces from a place on: deltas, seal, how many bytes they are, and whether what comes
 -- next may not be there. So many bytes are skipped first.
@@ -105,8 +107,8 @@ found skip sealed [] = ended sealed false
 found (suc skip) sealed (b ∷ rest) = found skip sealed rest
 found zero sealed (b ∷ rest) =
     match_piece (piece_at b rest)
-    (λ delta size. joined (one_record delta size sealed) (found (4 + size) sealed rest))
-    (if sealed then ended true true else joined one_seal (found 0 true rest))
+    (λ delta size. found_joined (one_record delta size sealed) (found (4 + size) sealed rest))
+    (if sealed then ended true true else found_joined one_seal (found 0 true rest))
     (ended sealed false)
     (ended sealed true)
 
@@ -133,9 +135,7 @@ slot_content gateway bytes =
 -- the generation of a sealed slot
 abbrev pub generation_in : SlotContent → ℕ
 generation_in (Sealed generation f) = generation
-generation_in Alien = 0
-generation_in Unsealed = 0
-generation_in (Broken at) = 0
+generation_in content = 0
 
 -- the deltas of the slot that is read: of the sealed ones that of the greater generation
 abbrev pub chosen : SlotContent → SlotContent → List (List Op)

@@ -20,8 +20,8 @@ use rep_ops::Delta;
 use std::alloc::Global;
 
 /// The other slot.
-pub(crate) fn other(slot: Slot) -> Slot
-    ensures { result ≡ spec.other slot }
+pub(crate) fn other_slot(slot: Slot) -> Slot
+    ensures { result ≡ spec.other_slot slot }
 {
     match slot {
         Slot::First => Slot::Second,

@@ -41,7 +41,7 @@ pub use content::HEADER;
 pub use fault::JournalFault;
 pub use journal::Journal;
 pub use jr_disk::{
-    Disk, DiskFault, Failures, MemoryDisk, OnceCall, OnceDisk, Plan, Short, Slot,
+    Disk, DiskFault, Failure, Failures, MemoryDisk, OnceCall, OnceDisk, Short, Slot,
     memory_disk_is_honest, once_disk_is_honest,
 };
 pub use piece::SEAL;

@@ -6,10 +6,10 @@ ghost use Rattle.jr_disk.specs.Disk.{at, replaced, bytes_of, image, all_synced, 
 ghost use Rattle.jr_journal.specs.inner.Disk.{is_calm};
 ghost use Rattle.jr_journal.specs.Records.{new_journal, slot_content, records};
 ghost use Rattle.jr_journal.specs.Crashes.{synced_bytes, reads_first, recovered, LeavesNoMore, Leaves};
-ghost use Rattle.jr_journal.specs.Arranged.{is_quiet, IsUnhurt};
+ghost use Rattle.jr_journal.specs.Arranged.{misses_failure, IsUnhurt};
 ghost use Rattle.jr_journal.specs.Opening.{synced_slots, slot_read, generation_read};
-ghost use Rattle.jr_journal.specs.inner.Opening.{held_of, opening_of, deltas_of, place_of, number_of, IsOpening, IsSized, settled, is_new, IsBegun, IsPartly};
-ghost use Rattle.jr_journal.specs.Faults.{is_fresh, IsFault, slots_fault, fault_of};
+ghost use Rattle.jr_journal.specs.inner.Opening.{held_in_slot, opening_of, deltas_of, opening_slot, opening_generation, IsOpening, IsSized, settled, is_new, IsBegun, IsPartly};
+ghost use Rattle.jr_journal.specs.Faults.{is_fresh, IsImageFault, slots_fault, fault_of};
 ghost use Rattle.jr_journal.specs.inner.Journals.{is_in_use};
 
 use crate::content::{HEADER, MAGIC, SlotContent, read_content};
@@ -169,7 +169,7 @@ fn is_first_read(first: &SlotContent, second: &SlotContent) -> bool
 
 /// A journal in a slot of so many bytes, where the slot is sealed.
 fn hold(slot: Slot, content: SlotContent, size: usize) -> Opening
-    ensures { result ≡ held_of slot content size }
+    ensures { result ≡ held_in_slot slot content size }
 {
     match content {
         SlotContent::Sealed { generation, found } => Opening::Held {
@@ -187,7 +187,7 @@ fn begin<D: Disk>(disk: &mut D, gateway: u8) -> Result<(), JournalFault>
     ensures cause { D.failures disk.old ≤ D.failures disk.new }
     ensures starved { D.starved disk.old ≡ true → D.starved disk.new ≡ true }
     ensures calm { D.honest → D.starved disk.new ≡ false
-        → IsTrue (is_quiet (D.outlook disk.old) true)
+        → IsTrue (misses_failure (D.outlook disk.old) true)
         → IsUnhurt result (D.outlook disk.old) (D.outlook disk.new) }
     ensures err { IfErr result (λ fault. (fault ≡ JournalFault.Disk)
         × (D.failures disk.old < D.failures disk.new)) }
@@ -248,7 +248,7 @@ pub(crate) fn settle<D: Disk>(
     ensures cause { D.failures disk.old ≤ D.failures disk.new }
     ensures starved { D.starved disk.old ≡ true → D.starved disk.new ≡ true }
     ensures calm { D.honest → D.starved disk.new ≡ false
-        → IsTrue (is_quiet (D.outlook disk.old) (is_new opening.now))
+        → IsTrue (misses_failure (D.outlook disk.old) (is_new opening.now))
         → IsUnhurt result (D.outlook disk.old) (D.outlook disk.new) }
     ensures err { IfErr result (λ fault. (fault ≡ JournalFault.Disk)
         × (D.failures disk.old < D.failures disk.new)) }
@@ -305,7 +305,7 @@ pub(crate) fn read_slots<D: Disk>(
     ensures opening { D.honest → IfOk result (λ opening. IsOpening gateway
         (image (D.slots disk.old)) opening × IsSized opening (D.slots disk.old)) }
     ensures fault { D.honest → IfErr result (λ fault.
-        IsFault (fault_of gateway (image (D.slots disk.old))) fault) }
+        IsImageFault (fault_of gateway (image (D.slots disk.old))) fault) }
 {
     let (first, size) = see_slot(alloc, disk, gateway, Slot::First)?;
     let (second, beside) = see_slot(alloc, disk, gateway, Slot::Second)?;
@@ -315,8 +315,8 @@ pub(crate) fn read_slots<D: Disk>(
 /// The deltas of a journal, with the slot in which it goes on.
 fn recovered_by(alloc: Global, opening: Opening) -> Recovered
     ensures deltas { result.deltas.items ≡ deltas_of opening }
-    ensures slot { result.slot ≡ place_of opening }
-    ensures generation { result.generation ≡ number_of opening }
+    ensures slot { result.slot ≡ opening_slot opening }
+    ensures generation { result.generation ≡ opening_generation opening }
 {
     match opening {
         Opening::New => Recovered {
@@ -347,7 +347,7 @@ pub(crate) fn recover<D: Disk>(
     ensures cause { D.failures disk.old ≤ D.failures disk.new }
     ensures starved { D.starved disk.old ≡ true → D.starved disk.new ≡ true }
     ensures calm { D.honest → D.starved disk.new ≡ false
-        → IsTrue (is_quiet (D.outlook disk.old) (is_fresh (image (D.slots disk.old))))
+        → IsTrue (misses_failure (D.outlook disk.old) (is_fresh (image (D.slots disk.old))))
         → IsUnhurt result (D.outlook disk.old) (D.outlook disk.new) }
     ensures err { IsErrOf result JournalFault.Disk → D.failures disk.old < D.failures disk.new }
     ensures running { IsErrOf result JournalFault.Halted → ⊥ }
@@ -364,7 +364,7 @@ pub(crate) fn recover<D: Disk>(
         made.deltas.items) }
     ensures found { D.honest → OnOk result (fault_of gateway (image (D.slots disk.old)) ≡ None) }
     ensures fault { D.honest → IfErr result (λ fault.
-        IsFault (fault_of gateway (image (D.slots disk.old))) fault) }
+        IsImageFault (fault_of gateway (image (D.slots disk.old))) fault) }
     ensures kept { D.honest → IfErr result (λ fault. fault ≢ JournalFault.Disk
         → D.slots disk.new ≡ synced_slots (D.slots disk.old)) }
     ensures leaves { D.honest → OnErr result (LeavesNoMore gateway (D.slots disk.old)

@@ -2,7 +2,7 @@
 
 ghost use Rattle.std.specs.Prelude.{◌≡◌, ◌≤◌, ◌<◌, ◌+◌, false, length, take, drop, IfOk, IfNone, IfSome};
 ghost use Rattle.std.specs.Int.{w32, from_be_bytes};
-ghost use Rattle.jr_journal.specs.Records.{delta_piece, body_at, record_at, piece_at, made, found};
+ghost use Rattle.jr_journal.specs.Records.{delta_piece, piece_body_at, record_at, piece_at, found_of, found};
 ghost use Rattle.jr_journal.specs.inner.Records.{refusal};
 
 use octets::{NoMemory, Sequence, read_u32};
@@ -74,7 +74,7 @@ fn read_delta(alloc: Global, size: usize, rest: &[u8]) -> Result<Piece, NoMemory
 
 /// So many bytes should be a delta.
 fn read_body(alloc: Global, size: usize, rest: &[u8]) -> Result<Piece, NoMemory>
-    ensures { IfOk result (λ piece. piece ≡ body_at size rest.now) }
+    ensures { IfOk result (λ piece. piece ≡ piece_body_at size rest.now) }
 {
     if size > MAX_OCTETS {
         return Ok(Piece::Bad);
@@ -126,7 +126,7 @@ fn behind_record(rest: &[u8], size: usize) -> &[u8]
 
 /// The pieces so far, after which nothing more counts.
 fn found_until(deltas: Sequence<Delta>, sealed: bool, whole: usize, bad: bool) -> Found
-    ensures { result ≡ made deltas sealed whole bad }
+    ensures { result ≡ found_of deltas sealed whole bad }
 {
     Found {
         deltas,

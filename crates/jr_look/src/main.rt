@@ -27,8 +27,6 @@ use crate::slots::read_slot;
 use crate::stop::Stop;
 use crate::words::{Options, read_words};
 use std::alloc::Global;
-use std::env::Env;
-use std::fs::{File, Files};
 use std::io::Write;
 use std::process::ExitCode;
 use std::{env, io};
@@ -54,11 +52,7 @@ fn main(rt: HostRuntime) -> ExitCode {
 }
 
 /// Reads, and prints what there is. Says whether an opening would take the journal.
-fn look<T: Env + Files<File = File>, O: Write>(
-    rt: &T,
-    alloc: Global,
-    out: &mut O,
-) -> Result<bool, Stop> {
+fn look<O: Write>(rt: &HostRuntime, alloc: Global, out: &mut O) -> Result<bool, Stop> {
     match asked(rt, alloc) {
         None => Err(Stop::Arguments),
         Some(asked) => {
@@ -70,7 +64,7 @@ fn look<T: Env + Files<File = File>, O: Write>(
 }
 
 /// What the command line asks for.
-fn asked<T: Env>(rt: &T, alloc: Global) -> Option<Options> {
+fn asked(rt: &HostRuntime, alloc: Global) -> Option<Options> {
     match given(rt, alloc) {
         None => None,
         Some(words) => {
@@ -82,7 +76,7 @@ fn asked<T: Env>(rt: &T, alloc: Global) -> Option<Options> {
 }
 
 /// The words of the command line, the program's name first.
-fn given<T: Env>(rt: &T, alloc: Global) -> Option<Vec<String>> {
+fn given(rt: &HostRuntime, alloc: Global) -> Option<Vec<String>> {
     match env::args(&(rt, alloc)) {
         Ok(words) => words.collect(alloc).ok(),
         Err(_) => None,
@@ -90,8 +84,8 @@ fn given<T: Env>(rt: &T, alloc: Global) -> Option<Vec<String>> {
 }
 
 /// Reads both files, and prints what there is to show.
-fn look_by<T: Files<File = File>, O: Write>(
-    rt: &T,
+fn look_by<O: Write>(
+    rt: &HostRuntime,
     alloc: Global,
     out: &mut O,
     asked: &Options,
@@ -106,12 +100,7 @@ fn look_by<T: Files<File = File>, O: Write>(
 }
 
 /// Reads both files, and finds what there is to show.
-fn find<T: Files<File = File>>(
-    rt: &T,
-    alloc: Global,
-    path: &str,
-    seen: &mut Findings,
-) -> Result<(), Stop> {
+fn find(rt: &HostRuntime, alloc: Global, path: &str, seen: &mut Findings) -> Result<(), Stop> {
     let mut first = Vec::new(alloc);
     let mut second = Vec::new(alloc);
     let found = match read_both(rt, alloc, path, &mut first, &mut second) {
@@ -124,8 +113,8 @@ fn find<T: Files<File = File>>(
 }
 
 /// Adds all octets of both files.
-fn read_both<T: Files<File = File>>(
-    rt: &T,
+fn read_both(
+    rt: &HostRuntime,
     alloc: Global,
     path: &str,
     first: &mut Vec<u8>,

@@ -2,15 +2,15 @@
 
 use crate::stop::Stop;
 use std::alloc::Global;
-use std::fs::{File, Files};
+use std::fs::File;
 use std::io::{self, Read};
 
 /// The most octets that are read of a file, 1 GiB.
 const MAX_SLOT: u64 = 1_073_741_824;
 
 /// Adds all octets of a slot's file, which is opened for reading alone.
-pub(crate) fn read_slot<T: Files<File = File>>(
-    rt: &T,
+pub(crate) fn read_slot(
+    rt: &HostRuntime,
     alloc: Global,
     octets: &mut Vec<u8>,
     path: &str,
@@ -27,8 +27,8 @@ pub(crate) fn read_slot<T: Files<File = File>>(
 }
 
 /// Adds all octets of a file.
-fn read_file<T: Files<File = File>>(
-    rt: &T,
+fn read_file(
+    rt: &HostRuntime,
     octets: &mut Vec<u8>,
     name: &str,
     ending: &'static str,

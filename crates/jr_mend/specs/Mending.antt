@@ -12,10 +12,10 @@ abbrev pub are_zeros : List ℕ → Bool
 are_zeros octets = list_all (λ octet. octet == 0) octets
 
 -- two slots of which one has only its first octets, so many
-abbrev pub shortened : List ℕ → List ℕ → Slot → ℕ → Image
-shortened first second First at = slots_of (take at first) second
-shortened first second Second at = slots_of first (take at second)
+abbrev pub slots_shortened : List ℕ → List ℕ → Slot → ℕ → Image
+slots_shortened first second First at = slots_of (take at first) second
+slots_shortened first second Second at = slots_of first (take at second)
 
 -- what is left without what is cut
 abbrev pub without : List ℕ → List ℕ → Cut → Image
-without first second cut = shortened first second cut.slot cut.at
+without first second cut = slots_shortened first second cut.slot cut.at

@@ -4,7 +4,7 @@ use crate::mending::Cut;
 use crate::stop::Stop;
 use jr_disk::Slot;
 use std::alloc::Global;
-use std::fs::{File, Files, TryLockError};
+use std::fs::{File, TryLockError};
 use std::io::{Read, Seek, SeekFrom, Write};
 
 /// The most octets that are read of a file, 1 GiB.
@@ -28,11 +28,7 @@ pub struct Pair {
 }
 
 /// Opens both files, which no other program may have as its journal.
-pub(crate) fn open_both<T: Files<File = File>>(
-    rt: &T,
-    alloc: Global,
-    path: &str,
-) -> Result<Both, Stop> {
+pub(crate) fn open_both(rt: &HostRuntime, alloc: Global, path: &str) -> Result<Both, Stop> {
     let first = open_one(rt, alloc, path, 0)?;
     let second = open_one(rt, alloc, path, 1)?;
     Ok(Both { first, second })
@@ -68,12 +64,7 @@ fn ends_in_zero(file: &File) -> Result<bool, Stop> {
 }
 
 /// Opens a file, and locks it.
-fn open_one<T: Files<File = File>>(
-    rt: &T,
-    alloc: Global,
-    path: &str,
-    ending: u8,
-) -> Result<File, Stop> {
+fn open_one(rt: &HostRuntime, alloc: Global, path: &str, ending: u8) -> Result<File, Stop> {
     let name = format!(in alloc; "{path}.{ending}")?;
     let opened = File::options()
         .read(true)
@@ -103,8 +94,8 @@ fn octets_of(alloc: Global, file: &File) -> Result<Vec<u8>, Stop> {
 }
 
 /// Copies both files, for good.
-pub(crate) fn copy_both<T: Files<File = File>>(
-    rt: &T,
+pub(crate) fn copy_both(
+    rt: &HostRuntime,
     alloc: Global,
     path: &str,
     pair: &Pair,
@@ -114,8 +105,8 @@ pub(crate) fn copy_both<T: Files<File = File>>(
 }
 
 /// Writes octets into the copy of a file.
-fn copy_one<T: Files<File = File>>(
-    rt: &T,
+fn copy_one(
+    rt: &HostRuntime,
     alloc: Global,
     path: &str,
     ending: u8,

@@ -17,8 +17,6 @@ use crate::files::{Both, Pair, copy_both, cut_file, end_in_zero, open_both, read
 use crate::mending::{Cut, find_cut, number_in};
 use crate::stop::Stop;
 use std::alloc::Global;
-use std::env::Env;
-use std::fs::{File, Files};
 use std::io::Write;
 use std::process::ExitCode;
 use std::{env, io};
@@ -37,11 +35,7 @@ fn main(rt: HostRuntime) -> ExitCode {
 }
 
 /// Mends the journal that the command line names, if it is to be mended.
-fn mend<T: Env + Files<File = File>, O: Write>(
-    rt: &T,
-    alloc: Global,
-    out: &mut O,
-) -> Result<(), Stop> {
+fn mend<O: Write>(rt: &HostRuntime, alloc: Global, out: &mut O) -> Result<(), Stop> {
     let path = path_in(rt, alloc)?;
     let done = mend_at(rt, alloc, path.as_str(), out);
     drop(path);
@@ -49,12 +43,7 @@ fn mend<T: Env + Files<File = File>, O: Write>(
 }
 
 /// Mends the journal at a path, if it is to be mended.
-fn mend_at<T: Files<File = File>, O: Write>(
-    rt: &T,
-    alloc: Global,
-    path: &str,
-    out: &mut O,
-) -> Result<(), Stop> {
+fn mend_at<O: Write>(rt: &HostRuntime, alloc: Global, path: &str, out: &mut O) -> Result<(), Stop> {
     let both = open_both(rt, alloc, path)?;
     match end_in_zero(&both) {
         Ok(true) => read_and_mend(rt, alloc, path, both, out),
@@ -64,8 +53,8 @@ fn mend_at<T: Files<File = File>, O: Write>(
 }
 
 /// Reads both files, and mends the journal if it is to be mended.
-fn read_and_mend<T: Files<File = File>, O: Write>(
-    rt: &T,
+fn read_and_mend<O: Write>(
+    rt: &HostRuntime,
     alloc: Global,
     path: &str,
     both: Both,
@@ -78,8 +67,8 @@ fn read_and_mend<T: Files<File = File>, O: Write>(
 }
 
 /// Mends a journal that both files were read of, if it is to be mended.
-fn mend_pair<T: Files<File = File>, O: Write>(
-    rt: &T,
+fn mend_pair<O: Write>(
+    rt: &HostRuntime,
     alloc: Global,
     path: &str,
     pair: &Pair,
@@ -102,8 +91,8 @@ fn mend_pair<T: Files<File = File>, O: Write>(
 }
 
 /// Copies both files, cuts one of them, and says so.
-fn cut_off<T: Files<File = File>, O: Write>(
-    rt: &T,
+fn cut_off<O: Write>(
+    rt: &HostRuntime,
     alloc: Global,
     path: &str,
     pair: &Pair,
@@ -122,7 +111,7 @@ fn cut_off<T: Files<File = File>, O: Write>(
 }
 
 /// The path of the journal: the only word of the command line.
-fn path_in<T: Env>(rt: &T, alloc: Global) -> Result<String, Stop> {
+fn path_in(rt: &HostRuntime, alloc: Global) -> Result<String, Stop> {
     let mut words = Vec::new(alloc);
     let Ok(all) = env::args(&(rt, alloc)) else {
         return Err(Stop::Arguments);

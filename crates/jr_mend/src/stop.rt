@@ -55,7 +55,7 @@ fn words(stop: Stop) -> &'static str {
 impl Stop {
     /// The program's status: 2 for what a person has to look at, and else 1.
     pub(crate) fn status(self) -> u8
-        ensures { result ≡ spec.status_of self }
+        ensures { result ≡ spec.mend_status self }
     {
         match self {
             Stop::Journal(_) => 2,

@@ -16,7 +16,7 @@ use Rattle.jr_disk.specs.Disk.{Image}
 use Rattle.jr_journal.specs.Records.{piece_at, found, slot_content, records}
 use Rattle.jr_journal.specs.Faults.{fault_of}
 use Rattle.jr_journal.specs.Opening.{slot_read}
-use Rattle.jr_journal.specs.inner.Opening.{opening_of, deltas_of, place_of, IsOpening}
+use Rattle.jr_journal.specs.inner.Opening.{opening_of, deltas_of, opening_slot, IsOpening}
 use Rattle.jr_journal.proofs.Pieces.{record_shape, seal_same, found_record, found_seal, found_second_seal, found_torn, found_bad, found_nothing, found_skip}
 use Rattle.jr_journal.proofs.Contents.{sealed_shape}
 use Rattle.jr_journal.proofs.Sound.{image_at}
@@ -129,7 +129,7 @@ all_records gateway i slot deltas is place none =
     let h : IsOpening gateway i o = (none, refl) in
     go o (ruled gateway i o h) (is ∙ sym (opening_records gateway i o h)) (place ∙ sym (opening_place gateway i o h).0)
   where
-    go : (o : Opening) → Ruled gateway i o → deltas ≡ deltas_of o → slot ≡ place_of o → AreAll (drop 13 (octets_in i slot)) deltas
+    go : (o : Opening) → Ruled gateway i o → deltas ≡ deltas_of o → slot ≡ opening_slot o → AreAll (drop 13 (octets_in i slot)) deltas
     go New r same there = inl same
     go (Held used m f n) r same there =
         inr (subst (λ (s : Slot). Holds (drop 13 (octets_in i s)) deltas) (sym there) (subst (λ (ds : List (List Op)). Holds (drop 13 (octets_in i used)) ds) (sym same) (sealed_holds gateway used i m f r.0)))

@@ -7,7 +7,7 @@ use Rattle.rep_model.specs.Taking.{IsFaultOf}
 use Rattle.jr_read.specs.declared.folding.Misfit.{Misfit}
 
 -- the record after so many others has this fault beside what is kept of them
-pub record IsMisfit (deltas : List (List Op)) (misfit : Misfit) : Type 0 where
+pub record IsRecordMisfit (deltas : List (List Op)) (misfit : Misfit) : Type 0 where
   pub delta : List Op
   pub delta_is : slice_get deltas misfit.before ≡ Some delta
   pub kept : List Op

@@ -3,7 +3,7 @@
 ghost use Rattle.std.specs.Prelude.{◌≡◌, [], OnOk, IfErr};
 ghost use Rattle.rep_ops.specs.Splitting.{all_of};
 ghost use Rattle.rep_model.specs.Keep.{CountsAs};
-ghost use Rattle.jr_read.specs.Folding.{IsMisfit};
+ghost use Rattle.jr_read.specs.Folding.{IsRecordMisfit};
 
 use rep_model::{Replica, TakeFault};
 use rep_ops::Delta;
@@ -23,7 +23,7 @@ pub fn take_all<R: Replica>(alloc: Global, replica: &mut R, records: &[Delta]) -
     requires { R.kept replica.old ≡ [] }
     // What is kept counts as all operations of the records together.
     ensures ok { OnOk result (CountsAs (all_of records.now) (R.kept replica.new)) }
-    ensures err { IfErr result (λ misfit. IsMisfit records.now misfit) }
+    ensures err { IfErr result (λ misfit. IsRecordMisfit records.now misfit) }
 {
     for (before, record) in records.iter().enumerate() {
         match replica.prepare(alloc, record) {

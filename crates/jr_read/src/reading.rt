@@ -5,7 +5,7 @@ ghost use Rattle.std.specs.Int.{w64, from_be_bytes};
 ghost use Rattle.jr_journal.specs.declared.fault.JournalFault.{JournalFault};
 ghost use Rattle.jr_disk.specs.Disk.{at, image, bytes_of};
 ghost use Rattle.jr_journal.specs.Records.{records};
-ghost use Rattle.jr_journal.specs.Faults.{IsFault, fault_of};
+ghost use Rattle.jr_journal.specs.Faults.{IsImageFault, fault_of};
 ghost use Rattle.jr_journal.specs.Crashes.{recovered};
 ghost use Rattle.jr_journal.specs.Opening.{slot_read, generation_read};
 ghost use Rattle.jr_read.specs.Places.{slots_of, octets_in, ArePlaced, IsTold};
@@ -88,7 +88,7 @@ fn disk_of(alloc: Global, first: &[u8], second: &[u8]) -> Result<MemoryDisk, NoM
 
 /// What is told of a fault on a disk in memory, where a call fails for want of memory alone.
 fn told(fault: JournalFault) -> JournalFault
-    ensures { (known : Option JournalFault) → IsFault known fault → IsTold known result }
+    ensures { (known : Option JournalFault) → IsImageFault known fault → IsTold known result }
 {
     match fault {
         JournalFault::Foreign => JournalFault::Foreign,

@@ -6,9 +6,9 @@ use Rattle.std.proofs.lemmas.Option.{cond_some}
 use Rattle.byteorder.specs.Endian.{big_bytes}
 use Rattle.mq_packet.specs.declared.packet.Qos.{Qos}
 use Rattle.mq_packet.specs.declared.packet.Qos.TheVariants as levels
-use Rattle.mq_packet.specs.Bodies.{data_octets, grant_number, qos_number, IsId, IsNumber}
+use Rattle.mq_packet.specs.Bodies.{data_octets, grant_number, qos_number, IsId, IsSixteenBits}
 use Rattle.mq_packet.specs.Text.{IsData}
-use Rattle.mq_packet.specs.inner.Reading.{◌>>=◌, grant_at, number, only_id, qos_at, read_data, read_data_if, read_id, read_octet}
+use Rattle.mq_packet.specs.inner.Reading.{◌>>=◌, grant_at, number_of_two, only_id, qos_of_number, read_data, read_data_if, read_id, read_one_octet}
 use Rattle.mq_packet.proofs.Numbers.{IsBytes, bytes-drop, chosen, octets-number, number-fits, number-octets, otherwise}
 
 -- what is read on from something that was read
@@ -32,25 +32,25 @@ pub record Takes (bytes : List ℕ) (x : List ℕ × List ℕ) : Type 0 where
   pub short : IsData x.0
   pub rest : IsBytes x.1
 
-data_whole : (high low : ℕ) (rest : List ℕ) → high < 256 → low < 256 → number high low ≤ length rest
-    → high ∷ low ∷ rest ≡ data_octets (take (number high low) rest) ++ drop (number high low) rest
+data_whole : (high low : ℕ) (rest : List ℕ) → high < 256 → low < 256 → number_of_two high low ≤ length rest
+    → high ∷ low ∷ rest ≡ data_octets (take (number_of_two high low) rest) ++ drop (number_of_two high low) rest
 data_whole high low rest h l fits =
-    let n : ℕ = number high low in
-    let P : ℕ → Type 0 = λ k. high ∷ low ∷ rest ≡ (big_bytes 2 k ++ take (number high low) rest) ++ drop (number high low) rest in
-    let Q : List ℕ → Type 0 = λ two. high ∷ low ∷ rest ≡ (two ++ take (number high low) rest) ++ drop (number high low) rest in
-    subst P (sym (length-take-le (number high low) rest fits)) (subst Q (sym (octets-number high low h l)) (ap (λ r. high ∷ low ∷ r) (sym (take-append-drop (number high low) rest))))
+    let n : ℕ = number_of_two high low in
+    let P : ℕ → Type 0 = λ k. high ∷ low ∷ rest ≡ (big_bytes 2 k ++ take (number_of_two high low) rest) ++ drop (number_of_two high low) rest in
+    let Q : List ℕ → Type 0 = λ two. high ∷ low ∷ rest ≡ (two ++ take (number_of_two high low) rest) ++ drop (number_of_two high low) rest in
+    subst P (sym (length-take-le (number_of_two high low) rest fits)) (subst Q (sym (octets-number high low h l)) (ap (λ r. high ∷ low ∷ r) (sym (take-append-drop (number_of_two high low) rest))))
 
 data_at : (high low : ℕ) (rest : List ℕ) (x : List ℕ × List ℕ) → IsBytes (high ∷ low ∷ rest)
-    → cond (leb (number high low) (length rest)) (Some (take (number high low) rest, drop (number high low) rest)) None ≡ Some x → Takes (high ∷ low ∷ rest) x
+    → cond (leb (number_of_two high low) (length rest)) (Some (take (number_of_two high low) rest, drop (number_of_two high low) rest)) None ≡ Some x → Takes (high ∷ low ∷ rest) x
 data_at high low rest x b h =
-    let pair : List ℕ × List ℕ = (take (number high low) rest, drop (number high low) rest) in
-    let found = cond_some (leb (number high low) (length rest)) pair x h in
-    let fits = leb-true (number high low) (length rest) found.0 in
+    let pair : List ℕ × List ℕ = (take (number_of_two high low) rest, drop (number_of_two high low) rest) in
+    let found = cond_some (leb (number_of_two high low) (length rest)) pair x h in
+    let fits = leb-true (number_of_two high low) (length rest) found.0 in
     let small = number-fits high low (b 0) (b 1) in
-    let size = length-take-le (number high low) rest fits in
+    let size = length-take-le (number_of_two high low) rest fits in
     let P : List ℕ × List ℕ → Type 0 = λ y. Takes (high ∷ low ∷ rest) y in
     let all : IsBytes rest = λ i. b (suc (suc i)) in
-    subst P found.1 (record { whole = data_whole high low rest (b 0) (b 1) fits; short = omega arith; rest = bytes-drop (number high low) rest all })
+    subst P found.1 (record { whole = data_whole high low rest (b 0) (b 1) fits; short = omega arith; rest = bytes-drop (number_of_two high low) rest all })
 
 pub data_taken : (bytes : List ℕ) (x : List ℕ × List ℕ) → IsBytes bytes → read_data bytes ≡ Some x → Takes bytes x
 data_taken [] x b h = cc
@@ -71,7 +71,7 @@ data_by n octets = cond (leb n (length octets)) (Some (take n octets, drop n oct
 -- a string or data with its length reads as it, whatever follows
 pub data_again : (octets rest : List ℕ) → IsData octets → read_data (data_octets octets ++ rest) ≡ Some (octets, rest)
 data_again octets rest h =
-    let size : number (length octets / 256 % 256) (length octets % 256) ≡ length octets = number-octets (length octets) (omega arith) in
+    let size : number_of_two (length octets / 256 % 256) (length octets % 256) ≡ length octets = number-octets (length octets) (omega arith) in
     let whole = length-append octets rest in
     let found : Option (List ℕ × List ℕ) = Some (octets, rest) in
     let P : ℕ → Type 0 = λ n. data_by n (octets ++ rest) ≡ found in
@@ -110,15 +110,15 @@ data_if_again false octets rest h none = let empty = none refl in cc
 pub record TakesId (bytes : List ℕ) (x : ℕ × List ℕ) : Type 0 where
   pub whole : bytes ≡ big_bytes 2 x.0 ++ x.1
   pub id : IsId x.0
-  pub number : IsNumber x.0
+  pub number : IsSixteenBits x.0
   pub rest : IsBytes x.1
 
 id_at : (high low : ℕ) (rest : List ℕ) (x : ℕ × List ℕ) → IsBytes (high ∷ low ∷ rest)
-    → cond (number high low == 0) None (Some (number high low, rest)) ≡ Some x → TakesId (high ∷ low ∷ rest) x
+    → cond (number_of_two high low == 0) None (Some (number_of_two high low, rest)) ≡ Some x → TakesId (high ∷ low ∷ rest) x
 id_at high low rest x b h =
-    let pair : ℕ × List ℕ = (number high low, rest) in
-    let found = cond_none (number high low == 0) pair x h in
-    let some = eqb-false (number high low) 0 found.0 in
+    let pair : ℕ × List ℕ = (number_of_two high low, rest) in
+    let found = cond_none (number_of_two high low == 0) pair x h in
+    let some = eqb-false (number_of_two high low) 0 found.0 in
     let cells = octets-number high low (b 0) (b 1) in
     let P : ℕ × List ℕ → Type 0 = λ y. TakesId (high ∷ low ∷ rest) y in
     let all : IsBytes rest = λ i. b (suc (suc i)) in
@@ -132,9 +132,9 @@ id_taken (high ∷ low ∷ rest) x b h = id_at high low rest x b h
 abbrev id_by : ℕ → List ℕ → Option (ℕ × List ℕ)
 id_by n rest = cond (n == 0) None (Some (n, rest))
 
-pub id_again : (id : ℕ) (rest : List ℕ) → IsId id → IsNumber id → read_id (big_bytes 2 id ++ rest) ≡ Some (id, rest)
+pub id_again : (id : ℕ) (rest : List ℕ) → IsId id → IsSixteenBits id → read_id (big_bytes 2 id ++ rest) ≡ Some (id, rest)
 id_again id rest some fits =
-    let size : number (id / 256 % 256) (id % 256) ≡ id = number-octets id fits in
+    let size : number_of_two (id / 256 % 256) (id % 256) ≡ id = number-octets id fits in
     let found : Option (ℕ × List ℕ) = Some (id, rest) in
     let P : ℕ → Type 0 = λ n. id_by n rest ≡ found in
     let not_zero : (id == 0) ≡ false = ne_eqb id 0 (λ e. omega arith) in
@@ -144,7 +144,7 @@ id_again id rest some fits =
 pub record TakesOnly (bytes : List ℕ) (n : ℕ) : Type 0 where
   pub whole : bytes ≡ big_bytes 2 n
   pub id : IsId n
-  pub number : IsNumber n
+  pub number : IsSixteenBits n
 
 only_at : (bytes rest : List ℕ) (first id : ℕ) → TakesId bytes (first, rest) → cond (length rest == 0) (Some first) None ≡ Some id → TakesOnly bytes id
 only_at bytes rest first id t h =
@@ -159,11 +159,11 @@ only_taken bytes id b h =
     let first = some_bound (read_id bytes) only_id id h in
     only_at bytes first.0.1 first.0.0 id (id_taken bytes first.0 b first.1) first.2
 
-pub only_again : (id : ℕ) → IsId id → IsNumber id → (read_id (big_bytes 2 id) >>= only_id) ≡ Some id
+pub only_again : (id : ℕ) → IsId id → IsSixteenBits id → (read_id (big_bytes 2 id) >>= only_id) ≡ Some id
 only_again id some fits = bound (read_id (big_bytes 2 id ++ [])) only_id (id, []) (Some id) (id_again id [] some fits) refl
 
 -- one octet and nothing else
-pub octet_taken : (bytes : List ℕ) (octet : ℕ) → read_octet bytes ≡ Some octet → bytes ≡ octet ∷ []
+pub octet_taken : (bytes : List ℕ) (octet : ℕ) → read_one_octet bytes ≡ Some octet → bytes ≡ octet ∷ []
 octet_taken [] octet h = cc
 octet_taken (x ∷ []) octet h = cc
 octet_taken (x ∷ y ∷ more) octet h = cc
@@ -176,15 +176,15 @@ qos_by false true n levels.Zero e d h = cc
 qos_by false true n levels.One e d h = sym (eqb-true n 1 d)
 qos_by false false n qos e d h = cc
 
-pub qos_taken : (n : ℕ) (qos : Qos) → qos_at n ≡ Some qos → qos_number qos ≡ n
+pub qos_taken : (n : ℕ) (qos : Qos) → qos_of_number n ≡ Some qos → qos_number qos ≡ n
 qos_taken n qos h = qos_by (n == 0) (n == 1) n qos refl refl h
 
-pub qos_again : (qos : Qos) → qos_at (qos_number qos) ≡ Some qos
+pub qos_again : (qos : Qos) → qos_of_number (qos_number qos) ≡ Some qos
 qos_again levels.Zero = refl
 qos_again levels.One = refl
 
 -- and so has a return code of SUBACK
-grant_by : (none : Bool) (n : ℕ) (found : Option Qos) (granted : Option Qos) → (n == 0x80) ≡ none → qos_at n ≡ found
+grant_by : (none : Bool) (n : ℕ) (found : Option Qos) (granted : Option Qos) → (n == 0x80) ≡ none → qos_of_number n ≡ found
     → cond none (Some None) (found >>= λ qos. Some (Some qos)) ≡ Some granted → grant_number granted ≡ n
 grant_by true n found None e d h = sym (eqb-true n 0x80 e)
 grant_by true n found (Some qos) e d h = cc
@@ -195,7 +195,7 @@ grant_by false n (Some qos) granted e d h =
     subst P same (qos_taken n qos d)
 
 pub grant_taken : (n : ℕ) (granted : Option Qos) → grant_at n ≡ Some granted → grant_number granted ≡ n
-grant_taken n granted h = grant_by (n == 0x80) n (qos_at n) granted refl refl h
+grant_taken n granted h = grant_by (n == 0x80) n (qos_of_number n) granted refl refl h
 
 pub grant_again : (granted : Option Qos) → grant_at (grant_number granted) ≡ Some granted
 grant_again None = refl

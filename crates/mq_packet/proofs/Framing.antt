@@ -2,13 +2,13 @@
 use Rattle.std.proofs.Common.{◌≡◌, ℕ, zero, suc, ◌/◌, ◌==◌, true, false, cond, List, ◌∷◌, ◌++◌, length, Option, Some, None, refl, ap, subst}
 use Rattle.mq_packet.specs.declared.header.Header.{Header}
 use Rattle.mq_packet.specs.declared.header.Header.TheVariants as headers
-use Rattle.mq_packet.specs.Grammar.{IsFramed, IsSaid, length_in}
-use Rattle.mq_packet.specs.Headers.{octet_of}
+use Rattle.mq_packet.specs.Grammar.{IsPacketFramed, IsSaid, length_in}
+use Rattle.mq_packet.specs.Headers.{header_octet}
 use Rattle.mq_packet.proofs.Lengths.{one_said}
 use Rattle.mq_packet.proofs.Numbers.{IsBytes}
 
 -- octets are framed in one way
-pub one_framing : (octets : List ℕ) (j k : ℕ) (a b : List ℕ) → IsFramed octets j a → IsFramed octets k b → (j ≡ k) × (a ≡ b)
+pub one_framing : (octets : List ℕ) (j k : ℕ) (a b : List ℕ) → IsPacketFramed octets j a → IsPacketFramed octets k b → (j ≡ k) × (a ≡ b)
 one_framing octets j k a b p q =
     let e = p.begins in
     let d = q.begins in
@@ -23,7 +23,7 @@ after_length zero n rest h = λ i. h (suc i)
 after_length (suc k) n rest h = after_length k (n / 128) rest (λ i. h (suc i))
 
 -- a body's octets are octets of the packet
-pub body_bytes : (octets : List ℕ) (first : ℕ) (body : List ℕ) → IsBytes octets → IsFramed octets first body → IsBytes body
+pub body_bytes : (octets : List ℕ) (first : ℕ) (body : List ℕ) → IsBytes octets → IsPacketFramed octets first body → IsBytes body
 body_bytes octets first body h p =
     let P : List ℕ → Type 0 = λ x. IsBytes x in
     let whole : IsBytes (first ∷ p.after) = subst P p.begins h in
@@ -51,7 +51,7 @@ header_at n =
     cond (n == 0xE0) (Some headers.Disconnect) (
     None))))))))))))))))
 
-header_at-octet : (h : Header) → header_at (octet_of h) ≡ Some h
+header_at-octet : (h : Header) → header_at (header_octet h) ≡ Some h
 header_at-octet headers.Connect = refl
 header_at-octet headers.ConnAck = refl
 header_at-octet (headers.PublishOnce false) = refl
@@ -70,7 +70,7 @@ header_at-octet headers.PingResp = refl
 header_at-octet headers.Disconnect = refl
 
 -- no two headers have one octet
-pub one_header : (g h : Header) → octet_of g ≡ octet_of h → g ≡ h
+pub one_header : (g h : Header) → header_octet g ≡ header_octet h → g ≡ h
 one_header g h e =
     let p = header_at-octet g in
     let q = header_at-octet h in

@@ -3,9 +3,9 @@ use Rattle.std.proofs.Common.{◌≡◌, ℕ, ◌⊎◌, inl, inr, List, [], ◌
 use Rattle.mq_packet.specs.declared.fault.PacketFault.{PacketFault}
 use Rattle.mq_packet.specs.declared.fault.PacketFault.TheVariants as faults
 use Rattle.mq_packet.specs.declared.header.Header.{Header}
-use Rattle.mq_packet.specs.Faults.{IsFirstFault, IsHeadFault, IsHeadThen, IsLengthFault, refusal_of}
-use Rattle.mq_packet.specs.Grammar.{IsFramed, IsSaid}
-use Rattle.mq_packet.specs.Headers.{octet_of}
+use Rattle.mq_packet.specs.Faults.{IsFirstPacketFault, IsHeadFault, IsHeadThen, IsLengthFault, first_octet_fault}
+use Rattle.mq_packet.specs.Grammar.{IsPacketFramed, IsSaid}
+use Rattle.mq_packet.specs.Headers.{header_octet}
 use Rattle.mq_packet.proofs.Lengths.{one_said, said_or_fault}
 use Rattle.mq_packet.proofs.Refusals.{framed_fault}
 
@@ -14,10 +14,10 @@ data Found (octets : List ℕ) (e : PacketFault) : Type 0 where
   nowhere : octets ≡ [] → e ≡ faults.Short → Found octets e
   in_head : IsHeadFault octets e → Found octets e
   in_length : IsHeadThen octets e → Found octets e
-  in_size : (said held : ℕ) → e ≡ faults.Length said held → IsFirstFault octets (faults.Length said held) → Found octets e
-  in_body : (header : Header) (body : List ℕ) → IsFramed octets (octet_of header) body → Found octets e
+  in_size : (said held : ℕ) → e ≡ faults.Length said held → IsFirstPacketFault octets (faults.Length said held) → Found octets e
+  in_body : (header : Header) (body : List ℕ) → IsPacketFramed octets (header_octet header) body → Found octets e
 
-found : (octets : List ℕ) (e : PacketFault) → IsFirstFault octets e → Found octets e
+found : (octets : List ℕ) (e : PacketFault) → IsFirstPacketFault octets e → Found octets e
 found octets (faults.UnknownType octet) h = in_head h
 found octets (faults.QosTwo octet) h = in_head h
 found octets (faults.Flags octet) h = in_head h
@@ -34,11 +34,11 @@ same_head octets d e (first, after, begins, p) (other, rest, own, q) =
     let same : first ≡ other = cc in
     let why = p.why in
     let because = q.why in
-    let so = ap refusal_of same in
+    let so = ap first_octet_fault same in
     cc
 
 -- and is none of a header
-head_or_header : (octets : List ℕ) (e : PacketFault) (header : Header) (after : List ℕ) → IsHeadFault octets e → octets ≡ octet_of header ∷ after → ⊥
+head_or_header : (octets : List ℕ) (e : PacketFault) (header : Header) (after : List ℕ) → IsHeadFault octets e → octets ≡ header_octet header ∷ after → ⊥
 head_or_header octets e header after (first, rest, begins, p) own = p.none header cc
 
 -- Remaining Length has one fault
@@ -73,14 +73,14 @@ same_then octets d e (header, after, begins, p) (other, rest, own, q) =
     same_length after d e p (subst P same q)
 
 -- and says no size then
-length_or_size : (octets : List ℕ) (d : PacketFault) (said held : ℕ) → IsHeadThen octets d → IsFirstFault octets (faults.Length said held) → ⊥
+length_or_size : (octets : List ℕ) (d : PacketFault) (said held : ℕ) → IsHeadThen octets d → IsFirstPacketFault octets (faults.Length said held) → ⊥
 length_or_size octets d said held (header, after, begins, p) (other, rest, body, own, is, size, differ) =
     let same : after ≡ rest = cc in
     let P : List ℕ → Type 0 = λ x. IsLengthFault x d in
     said_or_fault rest said body d is (subst P same p)
 
 -- one size is said and one is held
-same_size : (octets : List ℕ) (said held more other : ℕ) → IsFirstFault octets (faults.Length said held) → IsFirstFault octets (faults.Length more other) → faults.Length said held ≡ faults.Length more other
+same_size : (octets : List ℕ) (said held more other : ℕ) → IsFirstPacketFault octets (faults.Length said held) → IsFirstPacketFault octets (faults.Length more other) → faults.Length said held ≡ faults.Length more other
 same_size octets said held more other (header, after, rest, begins, is, size, differ) (header_b, after_b, rest_b, begins_b, is_b, size_b, differ_b) =
     let same : after ≡ after_b = cc in
     let P : List ℕ → Type 0 = λ x. IsSaid x said rest in
@@ -90,23 +90,23 @@ same_size octets said held more other (header, after, rest, begins, is, size, di
     cc
 
 -- two faults of octets that are framed
-both_framed : (octets : List ℕ) (d e : PacketFault) → IsFirstFault octets d → IsFirstFault octets e → (d ≡ faults.Body) ⊎ (d ≡ faults.Memory) → (e ≡ faults.Body) ⊎ (e ≡ faults.Memory) → d ≡ e
+both_framed : (octets : List ℕ) (d e : PacketFault) → IsFirstPacketFault octets d → IsFirstPacketFault octets e → (d ≡ faults.Body) ⊎ (d ≡ faults.Memory) → (e ≡ faults.Body) ⊎ (e ≡ faults.Memory) → d ≡ e
 both_framed octets d e p q (inl x) (inl y) = cc
 both_framed octets d e p q (inr x) (inr y) = cc
 both_framed octets d e p q (inl x) (inr y) =
-    let P : PacketFault → Type 0 = λ z. IsFirstFault octets z in
+    let P : PacketFault → Type 0 = λ z. IsFirstPacketFault octets z in
     let memory = subst P y q in
     absurd ((subst P x p).1 memory.0 memory.1.0 memory.1.1)
 both_framed octets d e p q (inr x) (inl y) =
-    let P : PacketFault → Type 0 = λ z. IsFirstFault octets z in
+    let P : PacketFault → Type 0 = λ z. IsFirstPacketFault octets z in
     let memory = subst P x p in
     absurd ((subst P y q).1 memory.0 memory.1.0 memory.1.1)
 
 -- a fault of octets that are framed is of their body
-framed_both : (octets : List ℕ) (d e : PacketFault) (header : Header) (body : List ℕ) → IsFramed octets (octet_of header) body → IsFirstFault octets d → IsFirstFault octets e → d ≡ e
+framed_both : (octets : List ℕ) (d e : PacketFault) (header : Header) (body : List ℕ) → IsPacketFramed octets (header_octet header) body → IsFirstPacketFault octets d → IsFirstPacketFault octets e → d ≡ e
 framed_both octets d e header body f p q = both_framed octets d e p q (framed_fault octets header body d f p) (framed_fault octets header body e f q)
 
-same_found : (octets : List ℕ) (d e : PacketFault) → IsFirstFault octets d → IsFirstFault octets e → Found octets d → Found octets e → d ≡ e
+same_found : (octets : List ℕ) (d e : PacketFault) → IsFirstPacketFault octets d → IsFirstPacketFault octets e → Found octets d → Found octets e → d ≡ e
 same_found octets d e p q (nowhere none x) (nowhere also y) = cc
 same_found octets d e p q (nowhere none x) (in_head h) = let begins = h.2 in absurd cc
 same_found octets d e p q (nowhere none x) (in_length h) = let begins = h.2 in absurd cc
@@ -126,5 +126,5 @@ same_found octets d e p q (in_size said held x g) (in_size more other y h) = let
 same_found octets d e p q (in_body header body f) h = framed_both octets d e header body f p q
 same_found octets d e p q g (in_body header body f) = framed_both octets d e header body f p q
 
-pub one_first_fault : (octets : List ℕ) (d e : PacketFault) → IsFirstFault octets d → IsFirstFault octets e → d ≡ e
+pub one_first_fault : (octets : List ℕ) (d e : PacketFault) → IsFirstPacketFault octets d → IsFirstPacketFault octets e → d ≡ e
 one_first_fault octets d e p q = same_found octets d e p q (found octets d p) (found octets e q)

@@ -11,9 +11,9 @@ use Rattle.mq_packet.specs.declared.packet.Delivery.TheVariants as deliveries
 use Rattle.mq_packet.specs.declared.packet.Packet.{Packet}
 use Rattle.mq_packet.specs.declared.packet.Packet.TheVariants as packets
 use Rattle.mq_packet.specs.declared.packet.Qos.{Qos}
-use Rattle.mq_packet.specs.Bodies.{IsAnswer, IsMessage, IsValue, body_of, data_octets, grant_number, header_of, qos_number}
-use Rattle.mq_packet.specs.Text.{is_filter, is_topic}
-use Rattle.mq_packet.specs.inner.Reading.{◌>>=◌, filter_first, grant_at, only_id, packet_of, publication, qos_at, read_acknowledged, read_bare, read_conn_ack, read_data, read_id, read_octet, read_once, read_sub_ack, read_subscribe, read_unsubscribe}
+use Rattle.mq_packet.specs.Bodies.{IsConnAckCode, IsAllowedPacket, IsPacketValue, packet_body, data_octets, grant_number, header_of, qos_number}
+use Rattle.mq_packet.specs.Text.{is_filter_text, is_topic_text}
+use Rattle.mq_packet.specs.inner.Reading.{◌>>=◌, filter_first, grant_at, only_id, packet_of, publish_packet, qos_of_number, read_acknowledged, read_no_body, read_conn_ack, read_data, read_id, read_one_octet, read_once, read_sub_ack_packet, read_subscribe, read_unsubscribe}
 use Rattle.mq_packet.proofs.Fields.{TakesOnly, bound, data_again, data_taken, grant_again, grant_taken, id_again, id_taken, octet_taken, only_again, only_taken, qos_again, qos_taken}
 use Rattle.mq_packet.proofs.Numbers.{IsBytes, chosen}
 use Rattle.mq_packet.proofs.ReadConnect.{connect_again, connect_taken}
@@ -42,19 +42,19 @@ conn_ack_stands (flags ∷ code ∷ x ∷ body) = tt
 -- PUBLISH
 once_stands : (retain : Bool) (body : List ℕ) → IsBytes body → Stands (headers.PublishOnce retain) body (read_once retain body)
 once_stands retain body b =
-    stands_by (headers.PublishOnce retain) body (read_data body) (λ x. publication deliveries.Once retain x.0 x.1) (λ x e.
+    stands_by (headers.PublishOnce retain) body (read_data body) (λ x. publish_packet deliveries.Once retain x.0 x.1) (λ x e.
     let taken = data_taken body x b e in
-    guarded (is_topic x.0) (headers.PublishOnce retain) body (packets.Publish deliveries.Once retain x.0 x.1) (λ good.
+    guarded (is_topic_text x.0) (headers.PublishOnce retain) body (packets.Publish deliveries.Once retain x.0 x.1) (λ good.
     ((tt, topic_from x.0 good), tt, refl, ap (λ front. front ++ x.1) (append-nil (data_octets x.0)) ∙ sym taken.whole)))
 
 acknowledged_stands : (dup retain : Bool) (body : List ℕ) → IsBytes body → Stands (headers.PublishAcknowledged dup retain) body (read_acknowledged dup retain body)
 acknowledged_stands dup retain body b =
     let header : Header = headers.PublishAcknowledged dup retain in
-    stands_by header body (read_data body) (λ x. read_id x.1 >>= λ y. publication (deliveries.Acknowledged y.0 dup) retain x.0 y.1) (λ x e.
+    stands_by header body (read_data body) (λ x. read_id x.1 >>= λ y. publish_packet (deliveries.Acknowledged y.0 dup) retain x.0 y.1) (λ x e.
     let taken = data_taken body x b e in
-    stands_by header body (read_id x.1) (λ y. publication (deliveries.Acknowledged y.0 dup) retain x.0 y.1) (λ y d.
+    stands_by header body (read_id x.1) (λ y. publish_packet (deliveries.Acknowledged y.0 dup) retain x.0 y.1) (λ y d.
     let named = id_taken x.1 y taken.rest d in
-    guarded (is_topic x.0) header body (packets.Publish (deliveries.Acknowledged y.0 dup) retain x.0 y.1) (λ good.
+    guarded (is_topic_text x.0) header body (packets.Publish (deliveries.Acknowledged y.0 dup) retain x.0 y.1) (λ good.
     ((named.id, topic_from x.0 good), named.number, refl, append_assoc (data_octets x.0) (big_bytes 2 y.0) y.1 ∙ ap (λ r. data_octets x.0 ++ r) (sym named.whole) ∙ sym taken.whole))))
 
 -- PUBACK and UNSUBACK
@@ -67,8 +67,8 @@ id_stands header make h body b =
     subst P (sym taken.whole) (h id (record { whole = refl; id = taken.id; number = taken.number })))
 
 -- a filter that was found good
-first_good : (y z : List ℕ × List ℕ) → filter_first y ≡ Some z → (is_filter y.0 ≡ true) × (y ≡ z)
-first_good y z e = cond_some (is_filter y.0) y z e
+first_good : (y z : List ℕ × List ℕ) → filter_first y ≡ Some z → (is_filter_text y.0 ≡ true) × (y ≡ z)
+first_good y z e = cond_some (is_filter_text y.0) y z e
 
 -- SUBSCRIBE
 subscribe_stands : (body : List ℕ) → IsBytes body → Stands headers.Subscribe body (read_subscribe body)
@@ -79,9 +79,9 @@ subscribe_stands body b =
     let taken = data_taken x.1 y named.rest d in
     stands_by headers.Subscribe body (filter_first y) _ (λ z f.
     let good = first_good y z f in
-    stands_by headers.Subscribe body (read_octet z.1) _ (λ octet g.
-    stands_by headers.Subscribe body (qos_at octet) _ (λ qos k.
-    let P : List ℕ × List ℕ → Type 0 = λ w. (is_filter w.0 ≡ true) × (x.1 ≡ data_octets w.0 ++ w.1) in
+    stands_by headers.Subscribe body (read_one_octet z.1) _ (λ octet g.
+    stands_by headers.Subscribe body (qos_of_number octet) _ (λ qos k.
+    let P : List ℕ × List ℕ → Type 0 = λ w. (is_filter_text w.0 ≡ true) × (x.1 ≡ data_octets w.0 ++ w.1) in
     let found = subst P good.1 (good.0, taken.whole) in
     let last = octet_taken z.1 octet g in
     let number = qos_taken octet qos k in
@@ -91,11 +91,11 @@ subscribe_stands body b =
     ((named.id, filter_from z.0 found.0), named.number, refl, append_assoc (big_bytes 2 x.0) (data_octets z.0) (qos_number qos ∷ []) ∙ ap (λ r. big_bytes 2 x.0 ++ r) (sym rest) ∙ sym named.whole))))))
 
 -- SUBACK
-sub_ack_stands : (body : List ℕ) → IsBytes body → Stands headers.SubAck body (read_sub_ack body)
+sub_ack_stands : (body : List ℕ) → IsBytes body → Stands headers.SubAck body (read_sub_ack_packet body)
 sub_ack_stands body b =
     stands_by headers.SubAck body (read_id body) _ (λ x e.
     let named = id_taken body x b e in
-    stands_by headers.SubAck body (read_octet x.1) _ (λ octet d.
+    stands_by headers.SubAck body (read_one_octet x.1) _ (λ octet d.
     stands_by headers.SubAck body (grant_at octet) _ (λ granted f.
     let last = octet_taken x.1 octet d in
     let number = grant_taken octet granted f in
@@ -114,7 +114,7 @@ unsubscribe_stands body b =
     stands_by headers.Unsubscribe body (filter_first y) _ (λ z f.
     let good = first_good y z f in
     guarded (length z.1 == 0) headers.Unsubscribe body (packets.Unsubscribe x.0 z.0) (λ none.
-    let P : List ℕ × List ℕ → Type 0 = λ w. (is_filter w.0 ≡ true) × (x.1 ≡ data_octets w.0 ++ w.1) in
+    let P : List ℕ × List ℕ → Type 0 = λ w. (is_filter_text w.0 ≡ true) × (x.1 ≡ data_octets w.0 ++ w.1) in
     let found = subst P good.1 (good.0, taken.whole) in
     let empty = nil_from_length z.1 (eqb-true (length z.1) 0 none) in
     let Q : List ℕ → Type 0 = λ r. x.1 ≡ data_octets z.0 ++ r in
@@ -122,7 +122,7 @@ unsubscribe_stands body b =
     ((named.id, filter_from z.0 found.0), named.number, refl, ap (λ r. big_bytes 2 x.0 ++ r) (sym rest) ∙ sym named.whole)))))
 
 -- a body of nothing
-bare_stands : (header : Header) (p : Packet) → IsOf header [] p → (body : List ℕ) → Stands header body (read_bare body p)
+bare_stands : (header : Header) (p : Packet) → IsOf header [] p → (body : List ℕ) → Stands header body (read_no_body body p)
 bare_stands header p h [] = h
 bare_stands header p h (x ∷ body) = tt
 
@@ -142,25 +142,25 @@ packet_stands headers.PingResp body b = bare_stands headers.PingResp packets.Pin
 packet_stands headers.Disconnect body b = bare_stands headers.Disconnect packets.Disconnect (tt, tt, refl, refl) body
 
 -- a packet's body reads as the packet
-once_again : (retain : Bool) (topic body : List ℕ) → IsMessage (packets.Publish deliveries.Once retain topic body)
+once_again : (retain : Bool) (topic body : List ℕ) → IsAllowedPacket (packets.Publish deliveries.Once retain topic body)
     → read_once retain (data_octets topic ++ [] ++ body) ≡ Some (packets.Publish deliveries.Once retain topic body)
 once_again retain topic body h =
     let P : List ℕ → Type 0 = λ front. read_once retain (front ++ body) ≡ Some (packets.Publish deliveries.Once retain topic body) in
     subst P (sym (append-nil (data_octets topic)))
-    (bound (read_data (data_octets topic ++ body)) (λ x. publication deliveries.Once retain x.0 x.1) (topic, body) _ (data_again topic body h.1.0.0.0)
-    (chosen (is_topic topic) _ None (topic_to topic h.1)))
+    (bound (read_data (data_octets topic ++ body)) (λ x. publish_packet deliveries.Once retain x.0 x.1) (topic, body) _ (data_again topic body h.1.0.0.0)
+    (chosen (is_topic_text topic) _ None (topic_to topic h.1)))
 
-acknowledged_again : (id : ℕ) (dup retain : Bool) (topic body : List ℕ) → id < 2 ^ 16 → IsMessage (packets.Publish (deliveries.Acknowledged id dup) retain topic body)
+acknowledged_again : (id : ℕ) (dup retain : Bool) (topic body : List ℕ) → id < 2 ^ 16 → IsAllowedPacket (packets.Publish (deliveries.Acknowledged id dup) retain topic body)
     → read_acknowledged dup retain (data_octets topic ++ big_bytes 2 id ++ body) ≡ Some (packets.Publish (deliveries.Acknowledged id dup) retain topic body)
 acknowledged_again id dup retain topic body v h =
     let P : List ℕ → Type 0 = λ octets. read_acknowledged dup retain octets ≡ Some (packets.Publish (deliveries.Acknowledged id dup) retain topic body) in
     subst P (sym (append_assoc (data_octets topic) (big_bytes 2 id) body))
-    (bound (read_data (data_octets topic ++ (big_bytes 2 id ++ body))) (λ x. read_id x.1 >>= λ y. publication (deliveries.Acknowledged y.0 dup) retain x.0 y.1) (topic, big_bytes 2 id ++ body) _
+    (bound (read_data (data_octets topic ++ (big_bytes 2 id ++ body))) (λ x. read_id x.1 >>= λ y. publish_packet (deliveries.Acknowledged y.0 dup) retain x.0 y.1) (topic, big_bytes 2 id ++ body) _
     (data_again topic (big_bytes 2 id ++ body) h.1.0.0.0)
-    (bound (read_id (big_bytes 2 id ++ body)) (λ y. publication (deliveries.Acknowledged y.0 dup) retain topic y.1) (id, body) _ (id_again id body h.0 v)
-    (chosen (is_topic topic) _ None (topic_to topic h.1))))
+    (bound (read_id (big_bytes 2 id ++ body)) (λ y. publish_packet (deliveries.Acknowledged y.0 dup) retain topic y.1) (id, body) _ (id_again id body h.0 v)
+    (chosen (is_topic_text topic) _ None (topic_to topic h.1))))
 
-subscribe_again : (id : ℕ) (filter : List ℕ) (qos : Qos) → id < 2 ^ 16 → IsMessage (packets.Subscribe id filter qos)
+subscribe_again : (id : ℕ) (filter : List ℕ) (qos : Qos) → id < 2 ^ 16 → IsAllowedPacket (packets.Subscribe id filter qos)
     → read_subscribe (big_bytes 2 id ++ data_octets filter ++ qos_number qos ∷ []) ≡ Some (packets.Subscribe id filter qos)
 subscribe_again id filter qos v h =
     let last : List ℕ = qos_number qos ∷ [] in
@@ -168,30 +168,30 @@ subscribe_again id filter qos v h =
     subst P (sym (append_assoc (big_bytes 2 id) (data_octets filter) last))
     (bound (read_id (big_bytes 2 id ++ (data_octets filter ++ last))) _ (id, data_octets filter ++ last) _ (id_again id (data_octets filter ++ last) h.0 v)
     (bound (read_data (data_octets filter ++ last)) _ (filter, last) _ (data_again filter last h.1.0.0)
-    (bound (filter_first (filter, last)) _ (filter, last) _ (chosen (is_filter filter) _ None (filter_to filter h.1))
-    (bound (qos_at (qos_number qos)) _ qos _ (qos_again qos) refl))))
+    (bound (filter_first (filter, last)) _ (filter, last) _ (chosen (is_filter_text filter) _ None (filter_to filter h.1))
+    (bound (qos_of_number (qos_number qos)) _ qos _ (qos_again qos) refl))))
 
-sub_ack_again : (id : ℕ) (granted : Option Qos) → id < 2 ^ 16 → IsMessage (packets.SubAck id granted)
-    → read_sub_ack (big_bytes 2 id ++ grant_number granted ∷ []) ≡ Some (packets.SubAck id granted)
+sub_ack_again : (id : ℕ) (granted : Option Qos) → id < 2 ^ 16 → IsAllowedPacket (packets.SubAck id granted)
+    → read_sub_ack_packet (big_bytes 2 id ++ grant_number granted ∷ []) ≡ Some (packets.SubAck id granted)
 sub_ack_again id granted v h =
     let last : List ℕ = grant_number granted ∷ [] in
     bound (read_id (big_bytes 2 id ++ last)) _ (id, last) _ (id_again id last h v)
     (bound (grant_at (grant_number granted)) _ granted _ (grant_again granted) refl)
 
-unsubscribe_again : (id : ℕ) (filter : List ℕ) → id < 2 ^ 16 → IsMessage (packets.Unsubscribe id filter)
+unsubscribe_again : (id : ℕ) (filter : List ℕ) → id < 2 ^ 16 → IsAllowedPacket (packets.Unsubscribe id filter)
     → read_unsubscribe (big_bytes 2 id ++ data_octets filter) ≡ Some (packets.Unsubscribe id filter)
 unsubscribe_again id filter v h =
     let P : List ℕ → Type 0 = λ octets. read_unsubscribe (big_bytes 2 id ++ octets) ≡ Some (packets.Unsubscribe id filter) in
     subst P (append-nil (data_octets filter))
     (bound (read_id (big_bytes 2 id ++ (data_octets filter ++ []))) _ (id, data_octets filter ++ []) _ (id_again id (data_octets filter ++ []) h.0 v)
     (bound (read_data (data_octets filter ++ [])) _ (filter, []) _ (data_again filter [] h.1.0.0)
-    (bound (filter_first (filter, [])) _ (filter, []) _ (chosen (is_filter filter) _ None (filter_to filter h.1)) refl)))
+    (bound (filter_first (filter, [])) _ (filter, []) _ (chosen (is_filter_text filter) _ None (filter_to filter h.1)) refl)))
 
-answer_again : (session : Bool) (code : ℕ) → IsAnswer session code → read_conn_ack ((cond session 1 0) ∷ code ∷ []) ≡ Some (packets.ConnAck session code)
+answer_again : (session : Bool) (code : ℕ) → IsConnAckCode session code → read_conn_ack ((cond session 1 0) ∷ code ∷ []) ≡ Some (packets.ConnAck session code)
 answer_again true code h = chosen (code == 0) _ None (eq-eqb code 0 h)
 answer_again false code h = chosen (leb code 5) _ _ (le-leb code 5 h)
 
-pub reads_back : (p : Packet) → IsValue p → IsMessage p → packet_of (header_of p) (body_of p) ≡ Some p
+pub reads_back : (p : Packet) → IsPacketValue p → IsAllowedPacket p → packet_of (header_of p) (packet_body p) ≡ Some p
 reads_back (packets.Connect clean keep_alive client will login) v h = connect_again clean keep_alive client will login v h
 reads_back (packets.ConnAck true code) v h = answer_again true code h
 reads_back (packets.ConnAck false code) v h = answer_again false code h

@@ -15,9 +15,9 @@ use Rattle.mq_packet.specs.declared.packet.Packet.TheVariants as packets
 use Rattle.mq_packet.specs.declared.packet.Qos.{Qos}
 use Rattle.mq_packet.specs.declared.packet.Qos.TheVariants as levels
 use Rattle.mq_packet.specs.declared.packet.Will.{Will}
-use Rattle.mq_packet.specs.Bodies.{IsLogin, IsMessage, IsNumber, IsValue, IsWill, bit, body_of, data_octets, login_bits, login_octets, protocol, will_bits, will_octets}
-use Rattle.mq_packet.specs.Text.{IsData, IsText, is_text, is_topic}
-use Rattle.mq_packet.specs.inner.Reading.{◌>>=◌, Parts, are_good, connection, has_password, login_made, login_mark_bits, marks_at, marks_octet, number, past_protocol, read_connect, read_connection, read_data, read_data_if, read_marked, read_marks, read_parts, will_made, will_mark_bits}
+use Rattle.mq_packet.specs.Bodies.{IsLogin, IsAllowedPacket, IsSixteenBits, IsPacketValue, IsWill, bit, packet_body, data_octets, login_bits, login_octets, protocol, will_bits, will_strings}
+use Rattle.mq_packet.specs.Text.{IsData, IsText, is_text, is_topic_text}
+use Rattle.mq_packet.specs.inner.Reading.{◌>>=◌, ConnectStrings, are_good, connection, has_password, login_made, login_mark_bits, marks_at, marks_octet, number_of_two, past_protocol, read_connect_packet, read_connection, read_data, read_data_if, read_marked, read_marks, read_parts, will_made, will_mark_bits}
 use Rattle.mq_packet.proofs.Fields.{bound, data_again, data_if, data_if_again, data_if_taken, data_taken, some_bound}
 use Rattle.mq_packet.proofs.Numbers.{IsBytes, chosen, number-fits, number-octets, octets-number, otherwise}
 use Rattle.mq_packet.proofs.Standing.{IsOf, Stands, stands_by}
@@ -67,49 +67,49 @@ marks_again false (Some (levels.One, false)) (Some true) = refl
 marks_again false (Some (levels.One, false)) (Some false) = refl
 
 -- the octets of the strings that the flags say are there
-abbrev strings_octets : Marks → Parts → List ℕ
+abbrev strings_octets : Marks → ConnectStrings → List ℕ
 strings_octets m p =
     data_octets p.0 ++ (data_if (is_some m.will) p.1 ++ (data_if (is_some m.will) p.2 ++ (data_if (is_some m.login) p.3 ++ data_if (has_password m.login) p.4)))
 
 -- strings that two octets can measure
-record AreData (p : Parts) : Type 0 where
+record AreData (p : ConnectStrings) : Type 0 where
   topic : IsData p.1
   message : IsData p.2
   user : IsData p.3
   password : IsData p.4
   client : IsData p.0
 
-record TakesParts (m : Marks) (payload : List ℕ) (p : Parts) : Type 0 where
+record TakesParts (m : Marks) (payload : List ℕ) (p : ConnectStrings) : Type 0 where
   whole : payload ≡ strings_octets m p
   sizes : AreData p
 
 -- the last string, and nothing after it
-last_part : (rest : List ℕ) (p q : Parts) → cond (length rest == 0) (Some p) None ≡ Some q → (rest ≡ []) × (p ≡ q)
+last_part : (rest : List ℕ) (p q : ConnectStrings) → cond (length rest == 0) (Some p) None ≡ Some q → (rest ≡ []) × (p ≡ q)
 last_part rest p q h =
     let found = cond_some (length rest == 0) p q h in
     (nil_from_length rest (eqb-true (length rest) 0 found.0), found.1)
 
 -- the strings that were read have the octets that they were read from
-abbrev with_password : List ℕ → List ℕ → List ℕ → List ℕ → List ℕ × List ℕ → Option Parts
+abbrev with_password : List ℕ → List ℕ → List ℕ → List ℕ → List ℕ × List ℕ → Option ConnectStrings
 with_password client topic message user password =
-    let parts : Parts = (client, topic, message, user, password.0) in cond (length password.1 == 0) (Some parts) None
+    let parts : ConnectStrings = (client, topic, message, user, password.0) in cond (length password.1 == 0) (Some parts) None
 
-abbrev with_user : Marks → List ℕ → List ℕ → List ℕ → List ℕ × List ℕ → Option Parts
+abbrev with_user : Marks → List ℕ → List ℕ → List ℕ → List ℕ × List ℕ → Option ConnectStrings
 with_user m client topic message user = read_data_if (has_password m.login) user.1 >>= with_password client topic message user.0
 
-abbrev with_message : Marks → List ℕ → List ℕ → List ℕ × List ℕ → Option Parts
+abbrev with_message : Marks → List ℕ → List ℕ → List ℕ × List ℕ → Option ConnectStrings
 with_message m client topic message = read_data_if (is_some m.login) message.1 >>= with_user m client topic message.0
 
-abbrev with_topic : Marks → List ℕ → List ℕ × List ℕ → Option Parts
+abbrev with_topic : Marks → List ℕ → List ℕ × List ℕ → Option ConnectStrings
 with_topic m client topic = read_data_if (is_some m.will) topic.1 >>= with_message m client topic.0
 
-abbrev with_client : Marks → List ℕ × List ℕ → Option Parts
+abbrev with_client : Marks → List ℕ × List ℕ → Option ConnectStrings
 with_client m client = read_data_if (is_some m.will) client.1 >>= with_topic m client.0
 
 joined : (a b c d e r s t u v : List ℕ) → r ≡ a ++ s → s ≡ b ++ t → t ≡ c ++ u → u ≡ d ++ v → v ≡ e ++ [] → r ≡ a ++ (b ++ (c ++ (d ++ e)))
 joined a b c d e r s t u v p q x y z = let last = append-nil e in cc
 
-parts_taken : (m : Marks) (payload : List ℕ) (p : Parts) → IsBytes payload → read_parts m payload ≡ Some p → TakesParts m payload p
+parts_taken : (m : Marks) (payload : List ℕ) (p : ConnectStrings) → IsBytes payload → read_parts m payload ≡ Some p → TakesParts m payload p
 parts_taken m payload p b h =
     let client = some_bound (read_data payload) (with_client m) p h in
     let first = data_taken payload client.0 b client.1 in
@@ -121,11 +121,11 @@ parts_taken m payload p b h =
     let fourth = data_if_taken (is_some m.login) message.0.1 user.0 third.rest user.1 in
     let password = some_bound (read_data_if (has_password m.login) user.0.1) (with_password client.0.0 topic.0.0 message.0.0 user.0.0) p user.2 in
     let fifth = data_if_taken (has_password m.login) user.0.1 password.0 fourth.rest password.1 in
-    let parts : Parts = (client.0.0, topic.0.0, message.0.0, user.0.0, password.0.0) in
+    let parts : ConnectStrings = (client.0.0, topic.0.0, message.0.0, user.0.0, password.0.0) in
     let last = last_part password.0.1 parts p password.2 in
     let P : List ℕ → Type 0 = λ r. user.0.1 ≡ data_if (has_password m.login) password.0.0 ++ r in
     let ending = subst P last.0 fifth.whole in
-    let Q : Parts → Type 0 = λ q. TakesParts m payload q in
+    let Q : ConnectStrings → Type 0 = λ q. TakesParts m payload q in
     subst Q last.1 (record {
       whole = joined (data_octets client.0.0) (data_if (is_some m.will) topic.0.0) (data_if (is_some m.will) message.0.0) (data_if (is_some m.login) user.0.0) (data_if (has_password m.login) password.0.0)
           payload client.0.1 topic.0.1 message.0.1 user.0.1 first.whole second.whole third.whole fourth.whole ending;
@@ -133,7 +133,7 @@ parts_taken m payload p b h =
     })
 
 -- the parts of CONNECT, from the flags and the strings
-will_made-octets : (w : Option (Qos × Bool)) (topic message : List ℕ) → will_octets (will_made w topic message) ≡ data_if (is_some w) topic ++ data_if (is_some w) message
+will_made-octets : (w : Option (Qos × Bool)) (topic message : List ℕ) → will_strings (will_made w topic message) ≡ data_if (is_some w) topic ++ data_if (is_some w) message
 will_made-octets None topic message = refl
 will_made-octets (Some w) topic message = refl
 
@@ -151,7 +151,7 @@ login_made-bits None user password = refl
 login_made-bits (Some true) user password = refl
 login_made-bits (Some false) user password = refl
 
-will_made-good : (w : Option (Qos × Bool)) (topic message : List ℕ) → (not (is_some w) || is_topic topic) ≡ true → IsData message → IfSome (will_made w topic message) IsWill
+will_made-good : (w : Option (Qos × Bool)) (topic message : List ℕ) → (not (is_some w) || is_topic_text topic) ≡ true → IsData message → IfSome (will_made w topic message) IsWill
 will_made-good None topic message h d = tt
 will_made-good (Some w) topic message h d = (topic_from topic h, d)
 
@@ -171,7 +171,7 @@ regrouped bits keep_alive client will login =
     let front : List ℕ = protocol ++ (bits ∷ big_bytes 2 keep_alive) in
     append_assoc (front ++ client) will login ∙ append_assoc front client (will ++ login)
 
-strings_made : (m : Marks) (p : Parts) → data_octets p.0 ++ (will_octets (will_made m.will p.1 p.2) ++ login_octets (login_made m.login p.3 p.4)) ≡ strings_octets m p
+strings_made : (m : Marks) (p : ConnectStrings) → data_octets p.0 ++ (will_strings (will_made m.will p.1 p.2) ++ login_octets (login_made m.login p.3 p.4)) ≡ strings_octets m p
 strings_made m p =
     let w = will_made-octets m.will p.1 p.2 in
     let l = login_made-octets m.login p.3 p.4 in
@@ -181,54 +181,54 @@ strings_made m p =
     subst Q (sym w) (subst R (sym l) (ap (λ r. data_octets p.0 ++ r)
     (append_assoc (data_if (is_some m.will) p.1) (data_if (is_some m.will) p.2) (data_if (is_some m.login) p.3 ++ data_if (has_password m.login) p.4))))
 
-bits_made : (m : Marks) (p : Parts) → 2 * bit m.clean + will_bits (will_made m.will p.1 p.2) + login_bits (login_made m.login p.3 p.4) ≡ marks_octet m
+bits_made : (m : Marks) (p : ConnectStrings) → 2 * bit m.clean + will_bits (will_made m.will p.1 p.2) + login_bits (login_made m.login p.3 p.4) ≡ marks_octet m
 bits_made m p =
     let w = will_made-bits m.will p.1 p.2 in
     let l = login_made-bits m.login p.3 p.4 in
     cc
 
 -- the body that CONNECT of these flags and strings has
-connection-body : (m : Marks) (keep_alive : ℕ) (p : Parts) → body_of (connection m keep_alive p) ≡ protocol ++ marked_octets (marks_octet m) keep_alive (strings_octets m p)
+connection-body : (m : Marks) (keep_alive : ℕ) (p : ConnectStrings) → packet_body (connection m keep_alive p) ≡ protocol ++ marked_octets (marks_octet m) keep_alive (strings_octets m p)
 connection-body m keep_alive p =
     let bits = bits_made m p in
     let strings = strings_made m p in
-    let P : ℕ → Type 0 = λ n. body_of (connection m keep_alive p) ≡ protocol ++ marked_octets n keep_alive (strings_octets m p) in
-    let Q : List ℕ → Type 0 = λ s. body_of (connection m keep_alive p) ≡ protocol ++ marked_octets (2 * bit m.clean + will_bits (will_made m.will p.1 p.2) + login_bits (login_made m.login p.3 p.4)) keep_alive s in
-    subst P bits (subst Q strings (regrouped _ keep_alive (data_octets p.0) (will_octets (will_made m.will p.1 p.2)) (login_octets (login_made m.login p.3 p.4))))
+    let P : ℕ → Type 0 = λ n. packet_body (connection m keep_alive p) ≡ protocol ++ marked_octets n keep_alive (strings_octets m p) in
+    let Q : List ℕ → Type 0 = λ s. packet_body (connection m keep_alive p) ≡ protocol ++ marked_octets (2 * bit m.clean + will_bits (will_made m.will p.1 p.2) + login_bits (login_made m.login p.3 p.4)) keep_alive s in
+    subst P bits (subst Q strings (regrouped _ keep_alive (data_octets p.0) (will_strings (will_made m.will p.1 p.2)) (login_octets (login_made m.login p.3 p.4))))
 
 -- strings that were found good
-good_parts : (m : Marks) (p : Parts) → are_good m p ≡ true → (is_text p.0 ≡ true) × ((not (is_some m.will) || is_topic p.1) ≡ true) × ((not (is_some m.login) || is_text p.3) ≡ true)
+good_parts : (m : Marks) (p : ConnectStrings) → are_good m p ≡ true → (is_text p.0 ≡ true) × ((not (is_some m.will) || is_topic_text p.1) ≡ true) × ((not (is_some m.login) || is_text p.3) ≡ true)
 good_parts m p h =
-    let both = and_parts (is_text p.0 && (not (is_some m.will) || is_topic p.1)) (not (is_some m.login) || is_text p.3) h in
-    let first = and_parts (is_text p.0) (not (is_some m.will) || is_topic p.1) both.0 in
+    let both = and_parts (is_text p.0 && (not (is_some m.will) || is_topic_text p.1)) (not (is_some m.login) || is_text p.3) h in
+    let first = and_parts (is_text p.0) (not (is_some m.will) || is_topic_text p.1) both.0 in
     (first.0, first.1, both.1)
 
-connection_is : (m : Marks) (keep_alive : ℕ) (payload : List ℕ) (p : Parts) → keep_alive < 2 ^ 16 → TakesParts m payload p → are_good m p ≡ true
+connection_is : (m : Marks) (keep_alive : ℕ) (payload : List ℕ) (p : ConnectStrings) → keep_alive < 2 ^ 16 → TakesParts m payload p → are_good m p ≡ true
     → IsOf headers.Connect (protocol ++ marked_octets (marks_octet m) keep_alive payload) (connection m keep_alive p)
 connection_is m keep_alive payload p fits t h =
     let good = good_parts m p h in
-    let P : List ℕ → Type 0 = λ s. body_of (connection m keep_alive p) ≡ protocol ++ marked_octets (marks_octet m) keep_alive s in (
+    let P : List ℕ → Type 0 = λ s. packet_body (connection m keep_alive p) ≡ protocol ++ marked_octets (marks_octet m) keep_alive s in (
       (text_from p.0 good.0, will_made-good m.will p.1 p.2 good.1 t.sizes.message, login_made-good m.login p.3 p.4 good.2 t.sizes.password),
       fits,
       refl,
       subst P (sym t.whole) (connection-body m keep_alive p),
     )
 
-connection_at : (test : Bool) (bits high low : ℕ) (payload : List ℕ) (m : Marks) (p : Parts) → are_good m p ≡ test → marks_octet m ≡ bits → IsBytes (bits ∷ high ∷ low ∷ payload) → TakesParts m payload p
-    → Stands headers.Connect (protocol ++ bits ∷ high ∷ low ∷ payload) (cond test (Some (connection m (number high low) p)) None)
+connection_at : (test : Bool) (bits high low : ℕ) (payload : List ℕ) (m : Marks) (p : ConnectStrings) → are_good m p ≡ test → marks_octet m ≡ bits → IsBytes (bits ∷ high ∷ low ∷ payload) → TakesParts m payload p
+    → Stands headers.Connect (protocol ++ bits ∷ high ∷ low ∷ payload) (cond test (Some (connection m (number_of_two high low) p)) None)
 connection_at false bits high low payload m p h e b t = tt
 connection_at true bits high low payload m p h e b t =
-    let is = connection_is m (number high low) payload p (number-fits high low (b 1) (b 2)) t h in
-    let P : ℕ → Type 0 = λ n. IsOf headers.Connect (protocol ++ (n ∷ big_bytes 2 (number high low)) ++ payload) (connection m (number high low) p) in
-    let Q : List ℕ → Type 0 = λ two. IsOf headers.Connect (protocol ++ ((bits ∷ two) ++ payload)) (connection m (number high low) p) in
+    let is = connection_is m (number_of_two high low) payload p (number-fits high low (b 1) (b 2)) t h in
+    let P : ℕ → Type 0 = λ n. IsOf headers.Connect (protocol ++ (n ∷ big_bytes 2 (number_of_two high low)) ++ payload) (connection m (number_of_two high low) p) in
+    let Q : List ℕ → Type 0 = λ two. IsOf headers.Connect (protocol ++ ((bits ∷ two) ++ payload)) (connection m (number_of_two high low) p) in
     subst Q (octets-number high low (b 1) (b 2)) (subst P e is)
 
 connection_stands : (bits high low : ℕ) (payload : List ℕ) → IsBytes (bits ∷ high ∷ low ∷ payload)
     → Stands headers.Connect (protocol ++ bits ∷ high ∷ low ∷ payload) (read_marked (bits ∷ high ∷ low ∷ payload))
 connection_stands bits high low payload b =
     let body : List ℕ = protocol ++ bits ∷ high ∷ low ∷ payload in
-    stands_by headers.Connect body (read_marks bits) (λ m. read_connection m (number high low) payload) (λ m e.
-    stands_by headers.Connect body (read_parts m payload) (λ p. cond (are_good m p) (Some (connection m (number high low) p)) None) (λ p d.
+    stands_by headers.Connect body (read_marks bits) (λ m. read_connection m (number_of_two high low) payload) (λ m e.
+    stands_by headers.Connect body (read_parts m payload) (λ p. cond (are_good m p) (Some (connection m (number_of_two high low) p)) None) (λ p d.
     connection_at (are_good m p) bits high low payload m p refl (marks_taken bits m e) b (parts_taken m payload p (λ i. b (suc (suc (suc i)))) d)))
 
 -- what follows the protocol
@@ -253,7 +253,7 @@ marked_stands (bits ∷ []) b = tt
 marked_stands (bits ∷ high ∷ []) b = tt
 marked_stands (bits ∷ high ∷ low ∷ payload) b = connection_stands bits high low payload b
 
-pub connect_taken : (body : List ℕ) → IsBytes body → Stands headers.Connect body (read_connect body)
+pub connect_taken : (body : List ℕ) → IsBytes body → Stands headers.Connect body (read_connect_packet body)
 connect_taken body b =
     stands_by headers.Connect body (past_protocol body) read_marked (λ rest e.
     let whole = past_taken body rest e in
@@ -291,7 +291,7 @@ abbrev password_of : Option Login → List ℕ
 password_of None = []
 password_of (Some login) = octets_or_none login.password
 
-abbrev parts_of : List ℕ → Option Will → Option Login → Parts
+abbrev parts_of : List ℕ → Option Will → Option Login → ConnectStrings
 parts_of client will login = (client, topic_of will, message_of will, user_of login, password_of login)
 
 abbrev marks_for : Bool → Option Will → Option Login → Marks
@@ -341,7 +341,7 @@ password_none : (login : Option Login) → has_password (login_marks_of login) �
 password_none None h = refl
 password_none (Some login) h = password_by login.password h
 
-will_good : (will : Option Will) → IfSome will IsWill → (not (is_some (will_marks_of will)) || is_topic (topic_of will)) ≡ true
+will_good : (will : Option Will) → IfSome will IsWill → (not (is_some (will_marks_of will)) || is_topic_text (topic_of will)) ≡ true
 will_good None h = refl
 will_good (Some will) h = topic_to will.topic h.0
 
@@ -366,7 +366,7 @@ parts_again clean client will login c w l =
     let rest3 : List ℕ = data_if has_user user ++ rest4 in
     let rest2 : List ℕ = data_if has_will message ++ rest3 in
     let rest1 : List ℕ = data_if has_will topic ++ rest2 in
-    let whole : Option Parts = Some (parts_of client will login) in
+    let whole : Option ConnectStrings = Some (parts_of client will login) in
     let fifth : read_data_if has_pass rest4 ≡ Some (password, []) =
     (let P : List ℕ → Type 0 = λ r. read_data_if has_pass r ≡ Some (password, []) in
     subst P (append-nil rest4) (data_if_again has_pass password [] logins.1 (password_none login))) in
@@ -388,30 +388,30 @@ past_again rest =
     otherwise (ltb (length (protocol ++ rest)) 7) None _ (le-ltb _ 7 (omega arith)) ∙ chosen (bytes_eq (take 7 (protocol ++ rest)) protocol) (Some rest) None refl
 
 read_again : (clean : Bool) (keep_alive : ℕ) (client : List ℕ) (will : Option Will) (login : Option Login)
-    → IsNumber keep_alive → IsText client → IfSome will IsWill → IfSome login IsLogin
+    → IsSixteenBits keep_alive → IsText client → IfSome will IsWill → IfSome login IsLogin
     → read_connection (marks_for clean will login) keep_alive (strings_octets (marks_for clean will login) (parts_of client will login)) ≡ Some (packets.Connect clean keep_alive client will login)
 read_again clean keep_alive client will login v c w l =
     let m : Marks = marks_for clean will login in
-    let p : Parts = parts_of client will login in
+    let p : ConnectStrings = parts_of client will login in
     bound (read_parts m (strings_octets m p)) (λ q. cond (are_good m q) (Some (connection m keep_alive q)) None) p (Some (packets.Connect clean keep_alive client will login)) (parts_again clean client will login c w l)
     (chosen (are_good m p) (Some (connection m keep_alive p)) None (and_from _ _ (and_from _ _ (text_to client c) (will_good will w)) (login_good login l))
     ∙ ap (λ q. Some q) (connection_again clean keep_alive client will login))
 
 pub connect_again : (clean : Bool) (keep_alive : ℕ) (client : List ℕ) (will : Option Will) (login : Option Login)
-    → IsValue (packets.Connect clean keep_alive client will login) → IsMessage (packets.Connect clean keep_alive client will login)
-    → read_connect (body_of (packets.Connect clean keep_alive client will login)) ≡ Some (packets.Connect clean keep_alive client will login)
+    → IsPacketValue (packets.Connect clean keep_alive client will login) → IsAllowedPacket (packets.Connect clean keep_alive client will login)
+    → read_connect_packet (packet_body (packets.Connect clean keep_alive client will login)) ≡ Some (packets.Connect clean keep_alive client will login)
 connect_again clean keep_alive client will login v h =
     let m : Marks = marks_for clean will login in
-    let p : Parts = parts_of client will login in
+    let p : ConnectStrings = parts_of client will login in
     let whole : Option Packet = Some (packets.Connect clean keep_alive client will login) in
     let size = number-octets keep_alive v in
     let P : ℕ → Type 0 = λ n. read_connection m n (strings_octets m p) ≡ whole in
-    let Q : Packet → Type 0 = λ x. read_connect (body_of x) ≡ whole in
-    let R : List ℕ → Type 0 = λ x. read_connect x ≡ whole in
+    let Q : Packet → Type 0 = λ x. read_connect_packet (packet_body x) ≡ whole in
+    let R : List ℕ → Type 0 = λ x. read_connect_packet x ≡ whole in
     subst Q (connection_again clean keep_alive client will login)
     (subst R (sym (connection-body m keep_alive p))
     (bound (past_protocol (protocol ++ marked_octets (marks_octet m) keep_alive (strings_octets m p))) read_marked (marked_octets (marks_octet m) keep_alive (strings_octets m p)) whole
     (past_again (marked_octets (marks_octet m) keep_alive (strings_octets m p)))
-    (bound (read_marks (marks_octet m)) (λ x. read_connection x (number (keep_alive / 256 % 256) (keep_alive % 256)) (strings_octets m p)) m whole
+    (bound (read_marks (marks_octet m)) (λ x. read_connection x (number_of_two (keep_alive / 256 % 256) (keep_alive % 256)) (strings_octets m p)) m whole
     (marks_again clean (will_marks_of will) (login_marks_of login))
     (subst P (sym size) (read_again clean keep_alive client will login v h.0 h.1 h.2)))))

@@ -5,11 +5,11 @@ use Rattle.mq_packet.specs.declared.fault.PacketFault.{PacketFault}
 use Rattle.mq_packet.specs.declared.fault.PacketFault.TheVariants as faults
 use Rattle.mq_packet.specs.declared.header.Header.{Header}
 use Rattle.mq_packet.specs.declared.packet.Packet.{Packet}
-use Rattle.mq_packet.specs.Bodies.{IsMessage, IsValue, body_of, header_of}
-use Rattle.mq_packet.specs.Faults.{IsFirstFault, IsHeadFault, IsHeadThen, IsLengthFault}
-use Rattle.mq_packet.specs.Grammar.{IsFramed, IsSaid, Spells, fewest, length_in, size_of, spelling}
-use Rattle.mq_packet.specs.Headers.{octet_of}
-use Rattle.mq_packet.specs.inner.Reading.{Gives, packet_of}
+use Rattle.mq_packet.specs.Bodies.{IsAllowedPacket, IsPacketValue, packet_body, header_of}
+use Rattle.mq_packet.specs.Faults.{IsFirstPacketFault, IsHeadFault, IsHeadThen, IsLengthFault}
+use Rattle.mq_packet.specs.Grammar.{IsPacketFramed, IsSaid, SpellsPacket, fewest, length_in, packet_size, packet_spelling}
+use Rattle.mq_packet.specs.Headers.{header_octet}
+use Rattle.mq_packet.specs.inner.Reading.{ReadsPacket, packet_of}
 use Rattle.mq_packet.proofs.Framing.{body_bytes, one_framing, one_header}
 use Rattle.mq_packet.proofs.Lengths.{fewest_only, fewest_said, fewest_shortest, one_said, said_fits, said_or_fault}
 use Rattle.mq_packet.proofs.Numbers.{IsBytes}
@@ -18,55 +18,55 @@ use Rattle.mq_packet.proofs.Standing.{Stands}
 
 -- a packet that is spelled is the one that is read
 pub only_read : (octets : List ℕ) (header : Header) (body : List ℕ) (p : Packet)
-    → IsFramed octets (octet_of header) body → IsValue p → Spells octets p → packet_of header body ≡ Some p
+    → IsPacketFramed octets (header_octet header) body → IsPacketValue p → SpellsPacket octets p → packet_of header body ≡ Some p
 only_read octets header body p framed v spells =
     let one = one_framing octets _ _ _ _ framed spells.framed in
     let kind : header ≡ header_of p = one_header header (header_of p) one.0 in
-    let parts : body ≡ body_of p = one.1 in
+    let parts : body ≡ packet_body p = one.1 in
     let back = reads_back p v spells.message in
     cc
 
 -- no octets spell two packets
-pub one_packet : (octets : List ℕ) (p q : Packet) → IsValue p → IsValue q → Spells octets p → Spells octets q → p ≡ q
+pub one_packet : (octets : List ℕ) (p q : Packet) → IsPacketValue p → IsPacketValue q → SpellsPacket octets p → SpellsPacket octets q → p ≡ q
 one_packet octets p q v w s t =
-    let first = only_read octets (header_of p) (body_of p) p s.framed v s in
-    let second = only_read octets (header_of p) (body_of p) q s.framed w t in
+    let first = only_read octets (header_of p) (packet_body p) p s.framed v s in
+    let second = only_read octets (header_of p) (packet_body p) q s.framed w t in
     cc
 
 -- the canonical form of a packet that fits spells it
-pub fitting_spelled : (p : Packet) → IsMessage p → size_of p ≤ 268435455 → Spells (spelling p) p
+pub fitting_spelled : (p : Packet) → IsAllowedPacket p → packet_size p ≤ 268435455 → SpellsPacket (packet_spelling p) p
 fitting_spelled p h fits =
     record {
       message = h;
-      framed = record { after = length_in (fewest (length (body_of p))) (length (body_of p)) ++ body_of p; begins = refl; said = fewest_said (length (body_of p)) (body_of p) fits };
+      framed = record { after = length_in (fewest (length (packet_body p))) (length (packet_body p)) ++ packet_body p; begins = refl; said = fewest_said (length (packet_body p)) (packet_body p) fits };
     }
 
 -- and so does that of a packet that is spelled
-pub spelled_canonical : (octets : List ℕ) (p : Packet) → Spells octets p → Spells (spelling p) p
-spelled_canonical octets p s = fitting_spelled p s.message (said_fits s.framed.after (length (body_of p)) (body_of p) s.framed.said)
+pub spelled_canonical : (octets : List ℕ) (p : Packet) → SpellsPacket octets p → SpellsPacket (packet_spelling p) p
+spelled_canonical octets p s = fitting_spelled p s.message (said_fits s.framed.after (length (packet_body p)) (packet_body p) s.framed.said)
 
 -- which is as short as any, and the only one as short
-pub canonical_shortest : (octets : List ℕ) (p : Packet) → Spells octets p → length (spelling p) ≤ length octets
+pub canonical_shortest : (octets : List ℕ) (p : Packet) → SpellsPacket octets p → length (packet_spelling p) ≤ length octets
 canonical_shortest octets p s =
-    let after = fewest_shortest s.framed.after (length (body_of p)) (body_of p) s.framed.said in
+    let after = fewest_shortest s.framed.after (length (packet_body p)) (packet_body p) s.framed.said in
     let whole = ap length s.framed.begins in
     omega arith
 
-pub canonical_only : (octets : List ℕ) (p : Packet) → Spells octets p → length octets ≡ length (spelling p) → octets ≡ spelling p
+pub canonical_only : (octets : List ℕ) (p : Packet) → SpellsPacket octets p → length octets ≡ length (packet_spelling p) → octets ≡ packet_spelling p
 canonical_only octets p s e =
     let whole = ap length s.framed.begins in
-    let only = fewest_only s.framed.after (length (body_of p)) (body_of p) s.framed.said (omega arith) in
+    let only = fewest_only s.framed.after (length (packet_body p)) (packet_body p) s.framed.said (omega arith) in
     let begins = s.framed.begins in
     cc
 
 -- the first octet of a packet is that of a header
-no_head : (octets : List ℕ) (header : Header) (body : List ℕ) (fault : PacketFault) → IsHeadFault octets fault → IsFramed octets (octet_of header) body → ⊥
+no_head : (octets : List ℕ) (header : Header) (body : List ℕ) (fault : PacketFault) → IsHeadFault octets fault → IsPacketFramed octets (header_octet header) body → ⊥
 no_head octets header body fault (first, after, begins, h) framed =
     let own = framed.begins in
     h.none header cc
 
 -- and what follows it is a Remaining Length
-no_length : (octets : List ℕ) (header : Header) (body : List ℕ) (fault : PacketFault) → IsHeadThen octets fault → IsFramed octets (octet_of header) body → ⊥
+no_length : (octets : List ℕ) (header : Header) (body : List ℕ) (fault : PacketFault) → IsHeadThen octets fault → IsPacketFramed octets (header_octet header) body → ⊥
 no_length octets header body fault (other, after, begins, h) framed =
     let own = framed.begins in
     let same : framed.after ≡ after = cc in
@@ -74,7 +74,7 @@ no_length octets header body fault (other, after, begins, h) framed =
     said_or_fault framed.after (length body) body fault framed.said (subst P (sym same) h)
 
 -- which is the size of the body
-no_other_size : (octets : List ℕ) (header : Header) (body : List ℕ) (said held : ℕ) → IsFirstFault octets (faults.Length said held) → IsFramed octets (octet_of header) body → ⊥
+no_other_size : (octets : List ℕ) (header : Header) (body : List ℕ) (said held : ℕ) → IsFirstPacketFault octets (faults.Length said held) → IsPacketFramed octets (header_octet header) body → ⊥
 no_other_size octets header body said held (other, after, rest, begins, is, size, differ) framed =
     let own = framed.begins in
     let same : after ≡ framed.after = cc in
@@ -84,7 +84,7 @@ no_other_size octets header body said held (other, after, rest, begins, is, size
     differ cc
 
 -- the octets of a packet have no fault, but memory may be wanted for it
-pub framed_fault : (octets : List ℕ) (header : Header) (body : List ℕ) (e : PacketFault) → IsFramed octets (octet_of header) body → IsFirstFault octets e → (e ≡ faults.Body) ⊎ (e ≡ faults.Memory)
+pub framed_fault : (octets : List ℕ) (header : Header) (body : List ℕ) (e : PacketFault) → IsPacketFramed octets (header_octet header) body → IsFirstPacketFault octets e → (e ≡ faults.Body) ⊎ (e ≡ faults.Memory)
 framed_fault octets header body (faults.UnknownType octet) f h = absurd (no_head octets header body _ h f)
 framed_fault octets header body (faults.QosTwo octet) f h = absurd (no_head octets header body _ h f)
 framed_fault octets header body (faults.Flags octet) f h = absurd (no_head octets header body _ h f)
@@ -95,22 +95,22 @@ framed_fault octets header body (faults.Length said held) f h = absurd (no_other
 framed_fault octets header body faults.Body f h = inl refl
 framed_fault octets header body faults.Memory f h = inr refl
 
-no_body : (octets : List ℕ) (p : Packet) (e : PacketFault) → IsValue p → Spells octets p → IsFirstFault octets e → (e ≡ faults.Body) ⊎ (e ≡ faults.Memory) → e ≡ faults.Memory
+no_body : (octets : List ℕ) (p : Packet) (e : PacketFault) → IsPacketValue p → SpellsPacket octets p → IsFirstPacketFault octets e → (e ≡ faults.Body) ⊎ (e ≡ faults.Memory) → e ≡ faults.Memory
 no_body octets p e v s h (inl body) =
-    let P : PacketFault → Type 0 = λ x. IsFirstFault octets x in
+    let P : PacketFault → Type 0 = λ x. IsFirstPacketFault octets x in
     absurd ((subst P body h).1 p v s)
 no_body octets p e v s h (inr memory) = memory
 
-pub is_refused : (octets : List ℕ) (e : PacketFault) (p : Packet) → IsFirstFault octets e → IsValue p → Spells octets p → e ≡ faults.Memory
-is_refused octets e p h v s = no_body octets p e v s h (framed_fault octets (header_of p) (body_of p) e s.framed h)
+pub is_refused : (octets : List ℕ) (e : PacketFault) (p : Packet) → IsFirstPacketFault octets e → IsPacketValue p → SpellsPacket octets p → e ≡ faults.Memory
+is_refused octets e p h v s = no_body octets p e v s h (framed_fault octets (header_of p) (packet_body p) e s.framed h)
 
 -- what was read from a packet's body is spelled by the packet
 read_spells : (octets : List ℕ) (header : Header) (body : List ℕ) (p : Packet)
-    → IsBytes octets → IsFramed octets (octet_of header) body → packet_of header body ≡ Some p → IsValue p × Spells octets p
+    → IsBytes octets → IsPacketFramed octets (header_octet header) body → packet_of header body ≡ Some p → IsPacketValue p × SpellsPacket octets p
 read_spells octets header body p b framed read =
     let P : Option Packet → Type 0 = λ x. Stands header body x in
     let is = subst P read (packet_stands header body (body_bytes octets _ body b framed)) in
-    let Q : Header → List ℕ → Type 0 = λ u x. IsFramed octets (octet_of u) x in
+    let Q : Header → List ℕ → Type 0 = λ u x. IsPacketFramed octets (header_octet u) x in
     let R : Header → Type 0 = λ u. Q u body in
     let S : List ℕ → Type 0 = λ x. Q (header_of p) x in
     (is.1, record { message = is.0; framed = subst S (sym is.3) (subst R (sym is.2) framed) })
@@ -122,17 +122,17 @@ there (Some p) h = (p, refl)
 
 -- what reading a body answers, as an answer to all octets
 pub answers_ok : (octets : List ℕ) (header : Header) (body : List ℕ) (r : Result Packet PacketFault)
-    → IsBytes octets → IsFramed octets (octet_of header) body → Gives (packet_of header body) r → IfOk r (Spells octets)
+    → IsBytes octets → IsPacketFramed octets (header_octet header) body → ReadsPacket (packet_of header body) r → IfOk r (SpellsPacket octets)
 answers_ok octets header body (Ok p) b framed read = (read_spells octets header body p b framed read).1
 answers_ok octets header body (Err e) b framed read = tt
 
 pub answers_value : (octets : List ℕ) (header : Header) (body : List ℕ) (r : Result Packet PacketFault)
-    → IsBytes octets → IsFramed octets (octet_of header) body → Gives (packet_of header body) r → IfOk r IsValue
+    → IsBytes octets → IsPacketFramed octets (header_octet header) body → ReadsPacket (packet_of header body) r → IfOk r IsPacketValue
 answers_value octets header body (Ok p) b framed read = (read_spells octets header body p b framed read).0
 answers_value octets header body (Err e) b framed read = tt
 
 pub answers_only : (octets : List ℕ) (header : Header) (body : List ℕ) (r : Result Packet PacketFault) (p : Packet)
-    → IsFramed octets (octet_of header) body → Gives (packet_of header body) r → IsValue p → Spells octets p → (r ≡ Ok p) ⊎ (r ≡ Err faults.Memory)
+    → IsPacketFramed octets (header_octet header) body → ReadsPacket (packet_of header body) r → IsPacketValue p → SpellsPacket octets p → (r ≡ Ok p) ⊎ (r ≡ Err faults.Memory)
 answers_only octets header body (Ok q) p framed read v s = let only = only_read octets header body p framed v s in inl cc
 answers_only octets header body (Err faults.Memory) p framed read v s = inr refl
 answers_only octets header body (Err faults.Body) p framed read v s = let only = only_read octets header body p framed v s in absurd cc
@@ -144,7 +144,7 @@ answers_only octets header body (Err faults.TooLong) p framed read v s = absurd 
 answers_only octets header body (Err (faults.Length said held)) p framed read v s = absurd read
 
 pub answers_fault : (octets : List ℕ) (header : Header) (body : List ℕ) (r : Result Packet PacketFault)
-    → IsBytes octets → IsFramed octets (octet_of header) body → Gives (packet_of header body) r → IfErr r (IsFirstFault octets)
+    → IsBytes octets → IsPacketFramed octets (header_octet header) body → ReadsPacket (packet_of header body) r → IfErr r (IsFirstPacketFault octets)
 answers_fault octets header body (Ok q) b framed read = tt
 answers_fault octets header body (Err faults.Memory) b framed read =
     let found = there _ read in

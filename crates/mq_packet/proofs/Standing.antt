@@ -3,12 +3,12 @@ use Rattle.std.proofs.Common.{◌≡◌, Bool, true, false, cond, ℕ, List, Opt
 use Rattle.std.specs.Prelude.{option_map}
 use Rattle.mq_packet.specs.declared.header.Header.{Header}
 use Rattle.mq_packet.specs.declared.packet.Packet.{Packet}
-use Rattle.mq_packet.specs.Bodies.{IsMessage, IsValue, body_of, header_of}
+use Rattle.mq_packet.specs.Bodies.{IsAllowedPacket, IsPacketValue, packet_body, header_of}
 use Rattle.mq_packet.specs.inner.Reading.{◌>>=◌}
 
 -- the packet has this header and this body
 abbrev pub IsOf : Header → List ℕ → Packet → Type 0
-IsOf header body p = IsMessage p × IsValue p × (header_of p ≡ header) × (body_of p ≡ body)
+IsOf header body p = IsAllowedPacket p × IsPacketValue p × (header_of p ≡ header) × (packet_body p ≡ body)
 
 -- what was read, if anything, is such a packet
 abbrev pub Stands : Header → List ℕ → Option Packet → Type 0

@@ -12,7 +12,7 @@ use Rattle.mq_packet.specs.declared.packet.Packet.TheVariants as packets
 use Rattle.mq_packet.specs.declared.packet.Qos.{Qos}
 use Rattle.mq_packet.specs.declared.packet.Qos.TheVariants as levels
 use Rattle.mq_packet.specs.declared.packet.Will.{Will}
-use Rattle.mq_packet.specs.Text.{IsData, IsText, IsFilter, IsTopic}
+use Rattle.mq_packet.specs.Text.{IsData, IsText, IsFilterText, IsTopicText}
 
 -- which publication it is (3.3.1)
 abbrev pub publication_of : Delivery → Bool → Header
@@ -69,9 +69,9 @@ login_bits None = 0
 login_bits (Some login) = 128 + 64 * bit (is_some login.password)
 
 -- the topic and the message of the will (3.1.3.2, 3.1.3.3)
-abbrev pub will_octets : Option Will → List ℕ
-will_octets None = []
-will_octets (Some will) = data_octets will.topic ++ data_octets will.message
+abbrev pub will_strings : Option Will → List ℕ
+will_strings None = []
+will_strings (Some will) = data_octets will.topic ++ data_octets will.message
 
 -- a password, if there is one
 abbrev pub password_octets : Option (List ℕ) → List ℕ
@@ -88,22 +88,22 @@ abbrev pub protocol : List ℕ
 protocol = 0 ∷ 4 ∷ 77 ∷ 81 ∷ 84 ∷ 84 ∷ 4 ∷ []
 
 -- the octets of a packet after Remaining Length (3)
-abbrev pub body_of : Packet → List ℕ
-body_of (packets.Connect clean keep_alive client will login) =
+abbrev pub packet_body : Packet → List ℕ
+packet_body (packets.Connect clean keep_alive client will login) =
     protocol ++ (2 * bit clean + will_bits will + login_bits login) ∷ big_bytes 2 keep_alive
-    ++ data_octets client ++ will_octets will ++ login_octets login
-body_of (packets.ConnAck session code) = bit session ∷ code ∷ []
-body_of (packets.Publish delivery retain topic body) =
+    ++ data_octets client ++ will_strings will ++ login_octets login
+packet_body (packets.ConnAck session code) = bit session ∷ code ∷ []
+packet_body (packets.Publish delivery retain topic body) =
     data_octets topic ++ delivery_octets delivery ++ body
-body_of (packets.PubAck id) = big_bytes 2 id
-body_of (packets.Subscribe id filter qos) =
+packet_body (packets.PubAck id) = big_bytes 2 id
+packet_body (packets.Subscribe id filter qos) =
     big_bytes 2 id ++ data_octets filter ++ qos_number qos ∷ []
-body_of (packets.SubAck id granted) = big_bytes 2 id ++ grant_number granted ∷ []
-body_of (packets.Unsubscribe id filter) = big_bytes 2 id ++ data_octets filter
-body_of (packets.UnsubAck id) = big_bytes 2 id
-body_of packets.PingReq = []
-body_of packets.PingResp = []
-body_of packets.Disconnect = []
+packet_body (packets.SubAck id granted) = big_bytes 2 id ++ grant_number granted ∷ []
+packet_body (packets.Unsubscribe id filter) = big_bytes 2 id ++ data_octets filter
+packet_body (packets.UnsubAck id) = big_bytes 2 id
+packet_body packets.PingReq = []
+packet_body packets.PingResp = []
+packet_body packets.Disconnect = []
 
 -- a packet id is not 0 (2.3.1)
 abbrev pub IsId : ℕ → Type 0
@@ -116,7 +116,7 @@ IsDelivery (deliveries.Acknowledged id dup) = IsId id
 
 -- what the will may be (3.1.3.2, 3.1.3.3)
 abbrev pub IsWill : Will → Type 0
-IsWill will = IsTopic will.topic × IsData will.message
+IsWill will = IsTopicText will.topic × IsData will.message
 
 -- what the login may be (3.1.3.4, 3.1.3.5)
 abbrev pub IsLogin : Login → Type 0
@@ -124,40 +124,41 @@ IsLogin login = IsText login.user × IfSome login.password IsData
 
 -- The return code of CONNACK is at most 5, and there is no session with another code than 0
 -- (3.2.2.2, 3.2.2.3).
-abbrev pub IsAnswer : Bool → ℕ → Type 0
-IsAnswer true code = code ≡ 0
-IsAnswer false code = code ≤ 5
+abbrev pub IsConnAckCode : Bool → ℕ → Type 0
+IsConnAckCode true code = code ≡ 0
+IsConnAckCode false code = code ≤ 5
 
 -- Its parts have values that MQTT 3.1.1 allows.
-abbrev pub IsMessage : Packet → Type 0
-IsMessage (packets.Connect clean keep_alive client will login) =
+abbrev pub IsAllowedPacket : Packet → Type 0
+IsAllowedPacket (packets.Connect clean keep_alive client will login) =
     IsText client × IfSome will IsWill × IfSome login IsLogin
-IsMessage (packets.ConnAck session code) = IsAnswer session code
-IsMessage (packets.Publish delivery retain topic body) = IsDelivery delivery × IsTopic topic
-IsMessage (packets.PubAck id) = IsId id
-IsMessage (packets.Subscribe id filter qos) = IsId id × IsFilter filter
-IsMessage (packets.SubAck id granted) = IsId id
-IsMessage (packets.Unsubscribe id filter) = IsId id × IsFilter filter
-IsMessage (packets.UnsubAck id) = IsId id
-IsMessage p = Unit {0}
+IsAllowedPacket (packets.ConnAck session code) = IsConnAckCode session code
+IsAllowedPacket (packets.Publish delivery retain topic body) =
+    IsDelivery delivery × IsTopicText topic
+IsAllowedPacket (packets.PubAck id) = IsId id
+IsAllowedPacket (packets.Subscribe id filter qos) = IsId id × IsFilterText filter
+IsAllowedPacket (packets.SubAck id granted) = IsId id
+IsAllowedPacket (packets.Unsubscribe id filter) = IsId id × IsFilterText filter
+IsAllowedPacket (packets.UnsubAck id) = IsId id
+IsAllowedPacket p = Unit {0}
 
 -- a number of two octets
-abbrev pub IsNumber : ℕ → Type 0
-IsNumber n = n < 2 ^ 16
+abbrev pub IsSixteenBits : ℕ → Type 0
+IsSixteenBits n = n < 2 ^ 16
 
 -- a publication's packet id has 16 bits
 abbrev pub IsSixteen : Delivery → Type 0
 IsSixteen deliveries.Once = Unit {0}
-IsSixteen (deliveries.Acknowledged id dup) = IsNumber id
+IsSixteen (deliveries.Acknowledged id dup) = IsSixteenBits id
 
 -- The numbers of two octets in a packet have 16 bits. In a clause a number of a packet ranges over
 -- all numbers.
-abbrev pub IsValue : Packet → Type 0
-IsValue (packets.Connect clean keep_alive client will login) = IsNumber keep_alive
-IsValue (packets.Publish delivery retain topic body) = IsSixteen delivery
-IsValue (packets.PubAck id) = IsNumber id
-IsValue (packets.Subscribe id filter qos) = IsNumber id
-IsValue (packets.SubAck id granted) = IsNumber id
-IsValue (packets.Unsubscribe id filter) = IsNumber id
-IsValue (packets.UnsubAck id) = IsNumber id
-IsValue p = Unit {0}
+abbrev pub IsPacketValue : Packet → Type 0
+IsPacketValue (packets.Connect clean keep_alive client will login) = IsSixteenBits keep_alive
+IsPacketValue (packets.Publish delivery retain topic body) = IsSixteen delivery
+IsPacketValue (packets.PubAck id) = IsSixteenBits id
+IsPacketValue (packets.Subscribe id filter qos) = IsSixteenBits id
+IsPacketValue (packets.SubAck id granted) = IsSixteenBits id
+IsPacketValue (packets.Unsubscribe id filter) = IsSixteenBits id
+IsPacketValue (packets.UnsubAck id) = IsSixteenBits id
+IsPacketValue p = Unit {0}

@@ -6,20 +6,20 @@ use Rattle.mq_packet.specs.declared.fault.PacketFault.{PacketFault}
 use Rattle.mq_packet.specs.declared.fault.PacketFault.TheVariants as faults
 use Rattle.mq_packet.specs.declared.header.Header.{Header}
 use Rattle.mq_packet.specs.declared.packet.Packet.{Packet}
-use Rattle.mq_packet.specs.Bodies.{IsValue}
-use Rattle.mq_packet.specs.Grammar.{IsFramed, IsSaid, Spells}
-use Rattle.mq_packet.specs.Headers.{is_qos_two, octet_of}
+use Rattle.mq_packet.specs.Bodies.{IsPacketValue}
+use Rattle.mq_packet.specs.Grammar.{IsPacketFramed, IsSaid, SpellsPacket}
+use Rattle.mq_packet.specs.Headers.{is_qos_two, header_octet}
 
 -- why no packet begins with the octet: type 0 or 15, quality of service 2, or other flags
-abbrev pub refusal_of : ℕ → PacketFault
-refusal_of octet =
+abbrev pub first_octet_fault : ℕ → PacketFault
+first_octet_fault octet =
     if nat_lt octet 0x10 || nat_le 0xF0 octet then faults.UnknownType octet
     else (if is_qos_two octet then faults.QosTwo octet else faults.Flags octet)
 
 -- No packet begins with the octet, and this is why.
 pub record IsOctetFault (octet : ℕ) (fault : PacketFault) : Type 0 where
-  pub none : (header : Header) → octet_of header ≢ octet
-  pub why : fault ≡ refusal_of octet
+  pub none : (header : Header) → header_octet header ≢ octet
+  pub why : fault ≡ first_octet_fault octet
 
 -- the octets begin with one that no packet begins with, and this is why
 abbrev pub IsHeadFault : List ℕ → PacketFault → Type 0
@@ -40,36 +40,36 @@ IsLengthFault after fault = ⊥
 -- a packet begins with the first octet, and after it Remaining Length is wrong in this way
 abbrev pub IsHeadThen : List ℕ → PacketFault → Type 0
 IsHeadThen octets fault =
-    (header : Header) × (after : List ℕ) × (octets ≡ octet_of header ∷ after)
+    (header : Header) × (after : List ℕ) × (octets ≡ header_octet header ∷ after)
     × IsLengthFault after fault
 
 -- The octets spell some packet.
-abbrev pub IsSpelling : List ℕ → Type 0
-IsSpelling octets = (p : Packet) × (IsValue p × Spells octets p)
+abbrev pub IsPacketSpelling : List ℕ → Type 0
+IsPacketSpelling octets = (p : Packet) × (IsPacketValue p × SpellsPacket octets p)
 
 -- The octets are to be refused so, and for no reason that is looked for earlier. Only a good packet
 -- is refused because memory ran out.
-abbrev pub IsFirstFault : List ℕ → PacketFault → Type 0
-IsFirstFault octets (faults.UnknownType octet) = IsHeadFault octets (faults.UnknownType octet)
-IsFirstFault octets (faults.QosTwo octet) = IsHeadFault octets (faults.QosTwo octet)
-IsFirstFault octets (faults.Flags octet) = IsHeadFault octets (faults.Flags octet)
-IsFirstFault octets faults.Short = (octets ≡ []) ⊎ IsHeadThen octets faults.Short
-IsFirstFault octets faults.TooLong = IsHeadThen octets faults.TooLong
-IsFirstFault octets (faults.Length said held) =
-    (header : Header) × (after : List ℕ) × (rest : List ℕ) × (octets ≡ octet_of header ∷ after)
+abbrev pub IsFirstPacketFault : List ℕ → PacketFault → Type 0
+IsFirstPacketFault octets (faults.UnknownType octet) = IsHeadFault octets (faults.UnknownType octet)
+IsFirstPacketFault octets (faults.QosTwo octet) = IsHeadFault octets (faults.QosTwo octet)
+IsFirstPacketFault octets (faults.Flags octet) = IsHeadFault octets (faults.Flags octet)
+IsFirstPacketFault octets faults.Short = (octets ≡ []) ⊎ IsHeadThen octets faults.Short
+IsFirstPacketFault octets faults.TooLong = IsHeadThen octets faults.TooLong
+IsFirstPacketFault octets (faults.Length said held) =
+    (header : Header) × (after : List ℕ) × (rest : List ℕ) × (octets ≡ header_octet header ∷ after)
     × IsSaid after said rest × (held ≡ length rest) × (said ≢ held)
-IsFirstFault octets faults.Body =
-    ((header : Header) × (body : List ℕ) × IsFramed octets (octet_of header) body)
-    × ((p : Packet) → IsValue p → Spells octets p → ⊥)
-IsFirstFault octets faults.Memory = IsSpelling octets
+IsFirstPacketFault octets faults.Body =
+    ((header : Header) × (body : List ℕ) × IsPacketFramed octets (header_octet header) body)
+    × ((p : Packet) → IsPacketValue p → SpellsPacket octets p → ⊥)
+IsFirstPacketFault octets faults.Memory = IsPacketSpelling octets
 
 -- the number that a refusal is printed by
-abbrev pub fault_number : PacketFault → ℕ
-fault_number (faults.UnknownType octet) = 1
-fault_number (faults.QosTwo octet) = 2
-fault_number (faults.Flags octet) = 3
-fault_number faults.Short = 4
-fault_number faults.TooLong = 5
-fault_number (faults.Length said held) = 6
-fault_number faults.Body = 7
-fault_number faults.Memory = 8
+abbrev pub packet_fault_number : PacketFault → ℕ
+packet_fault_number (faults.UnknownType octet) = 1
+packet_fault_number (faults.QosTwo octet) = 2
+packet_fault_number (faults.Flags octet) = 3
+packet_fault_number faults.Short = 4
+packet_fault_number faults.TooLong = 5
+packet_fault_number (faults.Length said held) = 6
+packet_fault_number faults.Body = 7
+packet_fault_number faults.Memory = 8

@@ -2,8 +2,8 @@
 -- counts the octets of the body, and has one to four octets.
 use Rattle.std.specs.Prelude.{◌≡◌, ℕ, zero, suc, ◌+◌, ◌/◌, ◌%◌, ◌^◌, ◌<◌, nat_lt, if◌then◌else◌, List, [], ◌∷◌, ◌++◌, length}
 use Rattle.mq_packet.specs.declared.packet.Packet.{Packet}
-use Rattle.mq_packet.specs.Bodies.{header_of, body_of, IsMessage}
-use Rattle.mq_packet.specs.Headers.{octet_of}
+use Rattle.mq_packet.specs.Bodies.{header_of, packet_body, IsAllowedPacket}
+use Rattle.mq_packet.specs.Headers.{header_octet}
 
 -- A number in octets of seven bits each, the lowest first, with so many octets in front of the
 -- last. Those have 128 added, which says that another octet follows (2.2.3).
@@ -20,16 +20,16 @@ pub record IsSaid (octets : List ℕ) (size : ℕ) (rest : List ℕ) : Type 0 wh
   pub spelled : octets ≡ length_in more size ++ rest
 
 -- The octets are a first octet, the size of a body, and the body.
-pub record IsFramed (octets : List ℕ) (first : ℕ) (body : List ℕ) : Type 0 where
+pub record IsPacketFramed (octets : List ℕ) (first : ℕ) (body : List ℕ) : Type 0 where
   pub after : List ℕ
   pub begins : octets ≡ first ∷ after
   pub said : IsSaid after (length body) body
 
 -- The octets spell the packet: its values are allowed, and they are its first octet, the size of
 -- its body, and its body.
-pub record Spells (octets : List ℕ) (p : Packet) : Type 0 where
-  pub message : IsMessage p
-  pub framed : IsFramed octets (octet_of (header_of p)) (body_of p)
+pub record SpellsPacket (octets : List ℕ) (p : Packet) : Type 0 where
+  pub message : IsAllowedPacket p
+  pub framed : IsPacketFramed octets (header_octet (header_of p)) (packet_body p)
 
 -- how many octets are in front of the last, if a size is said in as few octets as it can
 abbrev pub fewest : ℕ → ℕ
@@ -38,13 +38,13 @@ fewest size =
     else (if nat_lt size 16384 then 1 else (if nat_lt size 2097152 then 2 else 3))
 
 -- the first octet, the size of the body in as few octets as it can, and the body
-abbrev pub framed_of : ℕ → List ℕ → List ℕ
-framed_of first body = first ∷ length_in (fewest (length body)) (length body) ++ body
+abbrev pub packet_framed : ℕ → List ℕ → List ℕ
+packet_framed first body = first ∷ length_in (fewest (length body)) (length body) ++ body
 
 -- the canonical spelling
-abbrev pub spelling : Packet → List ℕ
-spelling p = framed_of (octet_of (header_of p)) (body_of p)
+abbrev pub packet_spelling : Packet → List ℕ
+packet_spelling p = packet_framed (header_octet (header_of p)) (packet_body p)
 
 -- how many octets the body has
-abbrev pub size_of : Packet → ℕ
-size_of p = length (body_of p)
+abbrev pub packet_size : Packet → ℕ
+packet_size p = length (packet_body p)

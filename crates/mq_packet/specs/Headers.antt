@@ -6,23 +6,23 @@ use Rattle.mq_packet.specs.declared.header.Header.TheVariants as headers
 
 -- the type in the upper four bits, the flags in the lower: in PUBLISH DUP is 8, the quality of
 -- service 2 or 4 and RETAIN 1 (2.2.1, 2.2.2, 3.3.1)
-abbrev pub octet_of : Header → ℕ
-octet_of headers.Connect = 0x10
-octet_of headers.ConnAck = 0x20
-octet_of (headers.PublishOnce false) = 0x30
-octet_of (headers.PublishOnce true) = 0x31
-octet_of (headers.PublishAcknowledged false false) = 0x32
-octet_of (headers.PublishAcknowledged false true) = 0x33
-octet_of (headers.PublishAcknowledged true false) = 0x3A
-octet_of (headers.PublishAcknowledged true true) = 0x3B
-octet_of headers.PubAck = 0x40
-octet_of headers.Subscribe = 0x82
-octet_of headers.SubAck = 0x90
-octet_of headers.Unsubscribe = 0xA2
-octet_of headers.UnsubAck = 0xB0
-octet_of headers.PingReq = 0xC0
-octet_of headers.PingResp = 0xD0
-octet_of headers.Disconnect = 0xE0
+abbrev pub header_octet : Header → ℕ
+header_octet headers.Connect = 0x10
+header_octet headers.ConnAck = 0x20
+header_octet (headers.PublishOnce false) = 0x30
+header_octet (headers.PublishOnce true) = 0x31
+header_octet (headers.PublishAcknowledged false false) = 0x32
+header_octet (headers.PublishAcknowledged false true) = 0x33
+header_octet (headers.PublishAcknowledged true false) = 0x3A
+header_octet (headers.PublishAcknowledged true true) = 0x3B
+header_octet headers.PubAck = 0x40
+header_octet headers.Subscribe = 0x82
+header_octet headers.SubAck = 0x90
+header_octet headers.Unsubscribe = 0xA2
+header_octet headers.UnsubAck = 0xB0
+header_octet headers.PingReq = 0xC0
+header_octet headers.PingResp = 0xD0
+header_octet headers.Disconnect = 0xE0
 
 -- the first octets of quality of service 2: PUBLISH without and with DUP and RETAIN, PUBREC, PUBREL
 -- and PUBCOMP (3.3.1, 3.5 to 3.7)

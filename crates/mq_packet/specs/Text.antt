@@ -18,20 +18,21 @@ IsText octets = IsData octets × IsUtf8 octets × IsFalse (has_octet 0 octets)
 
 -- the filter of a subscription is a string that is not empty (4.7.3); where it has wildcards is not
 -- asked here
-abbrev pub IsFilter : List ℕ → Type 0
-IsFilter octets = IsText octets × (0 < length octets)
+abbrev pub IsFilterText : List ℕ → Type 0
+IsFilterText octets = IsText octets × (0 < length octets)
 
 -- the name of a topic is such a string, and has neither `+` (43) nor `#` (35) (3.3.2.1)
-abbrev pub IsTopic : List ℕ → Type 0
-IsTopic octets =
-    IsFilter octets × IsFalse (has_octet 43 octets) × IsFalse (has_octet 35 octets)
+abbrev pub IsTopicText : List ℕ → Type 0
+IsTopicText octets =
+    IsFilterText octets × IsFalse (has_octet 43 octets) × IsFalse (has_octet 35 octets)
 
--- `IsText`, `IsFilter` and `IsTopic` as tests
+-- `IsText`, `IsFilterText` and `IsTopicText` as tests
 abbrev pub is_text : List ℕ → Bool
 is_text octets = nat_le (length octets) MAX_DATA && is_utf8 octets && not (has_octet 0 octets)
 
-abbrev pub is_filter : List ℕ → Bool
-is_filter octets = is_text octets && not (length octets == 0)
+abbrev pub is_filter_text : List ℕ → Bool
+is_filter_text octets = is_text octets && not (length octets == 0)
 
-abbrev pub is_topic : List ℕ → Bool
-is_topic octets = is_filter octets && not (has_octet 43 octets) && not (has_octet 35 octets)
+abbrev pub is_topic_text : List ℕ → Bool
+is_topic_text octets =
+    is_filter_text octets && not (has_octet 43 octets) && not (has_octet 35 octets)

@@ -2,11 +2,11 @@
 
 ghost use Rattle.std.specs.Prelude.{◌≡◌, ◌≢◌, ◌⊎◌, IfOk, IfErr, Ok, Err};
 ghost use Rattle.mq_packet.specs.declared.packet.Packet.{Packet};
-ghost use Rattle.mq_packet.specs.Bodies.{IsValue};
-ghost use Rattle.mq_packet.specs.Faults.{IsFirstFault};
-ghost use Rattle.mq_packet.specs.Grammar.{IsFramed, Spells};
-ghost use Rattle.mq_packet.specs.Headers.{octet_of};
-ghost use Rattle.mq_packet.specs.inner.Reading.{packet_of, Gives};
+ghost use Rattle.mq_packet.specs.Bodies.{IsPacketValue};
+ghost use Rattle.mq_packet.specs.Faults.{IsFirstPacketFault};
+ghost use Rattle.mq_packet.specs.Grammar.{IsPacketFramed, SpellsPacket};
+ghost use Rattle.mq_packet.specs.Headers.{header_octet};
+ghost use Rattle.mq_packet.specs.inner.Reading.{packet_of, ReadsPacket};
 
 use crate::fault::PacketFault;
 use crate::header::Header;
@@ -26,15 +26,15 @@ use parts::{bare, only_id};
 /// whatever the size.
 pub fn decode(alloc: Global, octets: &[u8]) -> Result<Packet, PacketFault>
     // What is read is spelled so.
-    ensures ok { IfOk result (Spells octets.now) }
-    ensures value { IfOk result IsValue }
+    ensures ok { IfOk result (SpellsPacket octets.now) }
+    ensures value { IfOk result IsPacketValue }
 
     // What is spelled so is read, unless memory runs out.
-    ensures only { (p : Packet) → IsValue p → Spells octets.now p → (result ≡ Ok p)
+    ensures only { (p : Packet) → IsPacketValue p → SpellsPacket octets.now p → (result ≡ Ok p)
         ⊎ (result ≡ Err PacketFault.Memory) }
 
     // A refusal names the first thing that is wrong.
-    ensures fault { IfErr result (IsFirstFault octets.now) }
+    ensures fault { IfErr result (IsFirstPacketFault octets.now) }
 {
     let (header, body) = open(octets)?;
     packet(alloc, header, body)
@@ -42,8 +42,8 @@ pub fn decode(alloc: Global, octets: &[u8]) -> Result<Packet, PacketFault>
 
 /// What the first octet says, and the body.
 fn open(octets: &[u8]) -> Result<(Header, &[u8]), PacketFault>
-    ensures ok { IfOk result (λ x. IsFramed octets.now (octet_of x.0) x.1.now) }
-    ensures fault { IfErr result (λ e. (e ≢ PacketFault.Memory) × IsFirstFault octets.now e) }
+    ensures ok { IfOk result (λ x. IsPacketFramed octets.now (header_octet x.0) x.1.now) }
+    ensures fault { IfErr result (λ e. (e ≢ PacketFault.Memory) × IsFirstPacketFault octets.now e) }
 {
     let [first, after @ ..] = octets else {
         return Err(PacketFault::Short);
@@ -59,7 +59,7 @@ fn open(octets: &[u8]) -> Result<(Header, &[u8]), PacketFault>
 
 /// The packet with this header and this body.
 fn packet(alloc: Global, header: Header, body: &[u8]) -> Result<Packet, PacketFault>
-    ensures { Gives (packet_of header body.now) result }
+    ensures { ReadsPacket (packet_of header body.now) result }
 {
     match header {
         Header::Connect => connect(alloc, body),

@@ -92,11 +92,11 @@ impl fmt::Display for EncodeFault {
 }
 
 impl PacketFault {
-    ghost use Rattle.mq_packet.specs.Faults.{fault_number};
+    ghost use Rattle.mq_packet.specs.Faults.{packet_fault_number};
 
     /// The number that programs print for it, from 1 to 8.
     pub fn number(&self) -> u8
-        ensures { result ≡ fault_number self.now }
+        ensures { result ≡ packet_fault_number self.now }
     {
         match self {
             PacketFault::UnknownType { .. } => 1,

@@ -1,8 +1,8 @@
 //! The first octet of a packet: its type and flags (MQTT 3.1.1 sections 2.2.1 and 2.2.2).
 
 ghost use Rattle.std.specs.Prelude.{◌≡◌, IfOk, IfErr};
-ghost use Rattle.mq_packet.specs.Faults.{IsOctetFault, refusal_of};
-ghost use Rattle.mq_packet.specs.Headers.{octet_of};
+ghost use Rattle.mq_packet.specs.Faults.{IsOctetFault, first_octet_fault};
+ghost use Rattle.mq_packet.specs.Headers.{header_octet};
 ghost use Rattle.mq_packet.specs.Headers as spec;
 
 use crate::fault::PacketFault;
@@ -39,7 +39,7 @@ pub enum Header {
 impl Header {
     /// What an octet says as the first of a packet. The faults are UnknownType, QosTwo and Flags.
     pub fn from_octet(octet: u8) -> Result<Header, PacketFault>
-        ensures ok { IfOk result (λ header. octet_of header ≡ octet) }
+        ensures ok { IfOk result (λ header. header_octet header ≡ octet) }
         ensures err { IfErr result (IsOctetFault octet) }
     {
         let header = match octet {
@@ -78,7 +78,7 @@ impl Header {
 
     /// The octet.
     pub fn octet(self) -> u8
-        ensures { result ≡ octet_of self }
+        ensures { result ≡ header_octet self }
     {
         match self {
             Header::Connect => 0x10,
@@ -115,7 +115,7 @@ impl Header {
 
 /// Why no packet begins with this octet.
 fn refusal(octet: u8) -> PacketFault
-    ensures { result ≡ refusal_of octet }
+    ensures { result ≡ first_octet_fault octet }
 {
     if octet < 0x10 || 0xf0 <= octet {
         PacketFault::UnknownType { octet }

@@ -9,8 +9,8 @@
 //! SUBSCRIBE and UNSUBSCRIBE. `PacketFault` says how the rest is refused.
 //!
 //! The grammar is in specs/: `Headers` has the first octet of each packet, `Bodies` its body,
-//! `Text` what strings may hold, and `Grammar` Remaining Length and the word `Spells` that both
-//! calls are proved by. `Faults` says what a refusal means. `laws` has what follows from the
+//! `Text` what strings may hold, and `Grammar` Remaining Length and the word `SpellsPacket` that
+//! both calls are proved by. `Faults` says what a refusal means. `laws` has what follows from the
 //! grammar alone: no octets spell two packets, and refused octets have one fault.
 #![tactic(auto)]
 
@@ -31,4 +31,4 @@ pub use header::Header;
 pub use laws::{one_fault, one_meaning, one_spelling};
 pub use length::remaining;
 pub use packet::{Delivery, Login, MAX_DATA, MAX_REMAINING, Packet, Qos, Will};
-pub use text::{is_filter, is_text, is_topic};
+pub use text::{is_filter_text, is_text, is_topic_text};

@@ -1,7 +1,7 @@
 //! What the strings of a packet may hold (MQTT 3.1.1 sections 1.5.3, 3.3.2.1 and 4.7).
 
 ghost use Rattle.std.specs.Prelude.{◌≡◌, ◌↔◌, IsTrue};
-ghost use Rattle.mq_packet.specs.Text.{IsText, IsFilter, IsTopic};
+ghost use Rattle.mq_packet.specs.Text.{IsText, IsFilterText, IsTopicText};
 ghost use Rattle.mq_packet.specs.Text as spec;
 ghost use Rattle.std.specs.Str as utf8;
 
@@ -27,17 +27,17 @@ pub fn is_text(octets: &[u8]) -> bool
 
 /// Whether the octets are a string that is not empty, as the filter of a subscription is. Where it
 /// has wildcards is not asked.
-pub fn is_filter(octets: &[u8]) -> bool
-    ensures value { result ≡ spec.is_filter octets.now }
-    ensures meaning { IsTrue result ↔ IsFilter octets.now }
+pub fn is_filter_text(octets: &[u8]) -> bool
+    ensures value { result ≡ spec.is_filter_text octets.now }
+    ensures meaning { IsTrue result ↔ IsFilterText octets.now }
 {
     is_text(octets) && !octets.is_empty()
 }
 
 /// Whether the octets are the name of a topic: such a string without a wildcard.
-pub fn is_topic(octets: &[u8]) -> bool
-    ensures value { result ≡ spec.is_topic octets.now }
-    ensures meaning { IsTrue result ↔ IsTopic octets.now }
+pub fn is_topic_text(octets: &[u8]) -> bool
+    ensures value { result ≡ spec.is_topic_text octets.now }
+    ensures meaning { IsTrue result ↔ IsTopicText octets.now }
 {
-    is_filter(octets) && !octets.contains(&b'+') && !octets.contains(&b'#')
+    is_filter_text(octets) && !octets.contains(&b'+') && !octets.contains(&b'#')
 }

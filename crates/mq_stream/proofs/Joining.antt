@@ -2,12 +2,12 @@
 use Rattle.std.proofs.Common.{◌≡◌, ◌∙◌, ◌+◌, ◌-◌, ◌<◌, ◌≤◌, ℕ, zero, suc, List, [], ◌∷◌, ◌++◌, length, take, drop, refl, sym, ap, subst, append_assoc, length-append, arith}
 use Rattle.mq_packet.specs.declared.packet.Packet.{Packet}
 use Rattle.mq_packet.specs.Grammar.{length_in}
-use Rattle.mq_stream.specs.Pieces.{IsPiece, Reads, held}
+use Rattle.mq_stream.specs.Pieces.{IsPiece, ReadsPackets, held}
 
 -- one packet more has been read
 pub reads-more : (over : ℕ) (octets : List ℕ) (packets : List Packet) (left : ℕ) (rest : List ℕ) (p : Packet) (next : ℕ) (after : List ℕ) (more : ℕ) (end : List ℕ)
-    → Reads over octets packets left rest → IsPiece rest p next after → more ≡ next - length after → end ≡ drop next after
-    → Reads over octets (packets ++ p ∷ []) more end
+    → ReadsPackets over octets packets left rest → IsPiece rest p next after → more ≡ next - length after → end ≡ drop next after
+    → ReadsPackets over octets (packets ++ p ∷ []) more end
 reads-more over octets [] left rest p next after more end h piece few behind =
     (next, after, subst (λ zs. IsPiece zs p next after) h.1 piece, (few, behind))
 reads-more over octets (q ∷ qs) left rest p next after more end h piece few behind =

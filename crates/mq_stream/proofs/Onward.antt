@@ -2,7 +2,7 @@
 use Rattle.std.proofs.Common.{◌≡◌, ◌∙◌, ◌+◌, ◌-◌, ◌≤◌, ℕ, zero, suc, List, [], ◌∷◌, ◌++◌, length, take, drop, refl, sym, ap, subst, append_assoc, length-append, arith}
 use Rattle.mq_packet.specs.declared.packet.Packet.{Packet}
 use Rattle.mq_packet.specs.Grammar.{length_in}
-use Rattle.mq_stream.specs.Pieces.{IsPiece, Reads, Says, held}
+use Rattle.mq_stream.specs.Pieces.{IsPiece, ReadsPackets, SaysPacket, held}
 
 -- ---- lists
 
@@ -73,7 +73,7 @@ piece-longer octets p over rest ys i =
         };
       };
       there = omega arith;
-      says = subst (λ zs. Says i.first zs p) (sym (take-front (held i.said) i.body ys few)) i.says;
+      says = subst (λ zs. SaysPacket i.first zs p) (sym (take-front (held i.said) i.body ys few)) i.says;
       left = i.left;
       follows = ap (λ zs. zs ++ ys) i.follows ∙ sym (drop-joined (held i.said) i.body ys few);
     }
@@ -81,16 +81,16 @@ piece-longer octets p over rest ys i =
 -- ---- streams
 
 passed-reads : (over : ℕ) (xs ys : List ℕ) (more : List Packet) (last : ℕ) (tail : List ℕ)
-    → Reads (over - length xs) (drop over xs ++ ys) more last tail → Reads over (xs ++ ys) more last tail
+    → ReadsPackets (over - length xs) (drop over xs ++ ys) more last tail → ReadsPackets over (xs ++ ys) more last tail
 passed-reads over xs ys [] last tail h = (h.0 ∙ count-on over xs ys, h.1 ∙ passed-on over xs ys)
 passed-reads over xs ys (p ∷ ps) last tail h =
     (h.0, h.1, subst (λ zs. IsPiece zs p h.0 h.1) (passed-on over xs ys) h.2, h.3)
 
 pub reads-on : (over left last : ℕ) (first second rest tail : List ℕ) (packets more : List Packet)
-    → Reads over first packets left rest → Reads left (rest ++ second) more last tail → Reads over (first ++ second) (packets ++ more) last tail
+    → ReadsPackets over first packets left rest → ReadsPackets left (rest ++ second) more last tail → ReadsPackets over (first ++ second) (packets ++ more) last tail
 reads-on over left last first second rest tail [] more h k =
-    let P : ℕ → Type 0 = λ n. Reads n (rest ++ second) more last tail in
-    let Q : List ℕ → Type 0 = λ zs. Reads (over - length first) (zs ++ second) more last tail in
+    let P : ℕ → Type 0 = λ n. ReadsPackets n (rest ++ second) more last tail in
+    let Q : List ℕ → Type 0 = λ zs. ReadsPackets (over - length first) (zs ++ second) more last tail in
     passed-reads over first second more last tail (subst Q h.1 (subst P h.0 k))
 reads-on over left last first second rest tail (p ∷ ps) more h k =
     let there : length (drop over first) ≡ length first - over = dropped-length over first in

@@ -6,13 +6,13 @@ use Rattle.mq_packet.specs.declared.fault.PacketFault.{PacketFault}
 use Rattle.mq_packet.specs.declared.fault.PacketFault.TheVariants as faults
 use Rattle.mq_packet.specs.declared.header.Header.{Header}
 use Rattle.mq_packet.specs.declared.packet.Packet.{Packet}
-use Rattle.mq_packet.specs.Bodies.{body_of, header_of}
-use Rattle.mq_packet.specs.Faults.{IsFirstFault, IsLengthFault, IsOctetFault}
-use Rattle.mq_packet.specs.Grammar.{IsFramed, IsSaid, Spells, length_in}
-use Rattle.mq_packet.specs.Headers.{octet_of}
+use Rattle.mq_packet.specs.Bodies.{packet_body, header_of}
+use Rattle.mq_packet.specs.Faults.{IsFirstPacketFault, IsLengthFault, IsOctetFault}
+use Rattle.mq_packet.specs.Grammar.{IsPacketFramed, IsSaid, SpellsPacket, length_in}
+use Rattle.mq_packet.specs.Headers.{header_octet}
 use Rattle.mq_packet.proofs.Framing.{one_framing}
 use Rattle.mq_stream.specs.declared.front.TheConstants.{MAX_HELD}
-use Rattle.mq_stream.specs.Pieces.{IsFaulty, IsHead, IsPiece, Says, held}
+use Rattle.mq_stream.specs.Pieces.{IsFaulty, IsHead, IsPiece, SaysPacket, held}
 
 -- ---- lists
 
@@ -49,14 +49,14 @@ held-cut said h = ap (λ b. if b then MAX_HELD else said) (lt-ltb MAX_HELD said 
 
 -- ---- what octets that are framed say
 
-framed-says : (own : List ℕ) (first : ℕ) (body : List ℕ) (p : Packet) → IsFramed own first body → Spells own p → Says first body p
+framed-says : (own : List ℕ) (first : ℕ) (body : List ℕ) (p : Packet) → IsPacketFramed own first body → SpellsPacket own p → SaysPacket first body p
 framed-says own first body p framed s =
-    let same = one_framing own (octet_of (header_of p)) first (body_of p) body s.framed framed in
+    let same = one_framing own (header_octet (header_of p)) first (packet_body p) body s.framed framed in
     record { message = s.message; octet = same.0; whole = same.1 }
 
 -- the octets that a packet is read of, if the octets in front of it begin with its head
 front-framed : (octets own : List ℕ) (first said : ℕ) (body : List ℕ) → IsHead octets first said body → said ≤ length body
-    → own ≡ take (length octets - length body + said) octets → IsFramed own first (take said body)
+    → own ≡ take (length octets - length body + said) octets → IsPacketFramed own first (take said body)
 front-framed octets own first said body h few e =
     let F : List ℕ = first ∷ length_in h.says.more said in
     let whole : octets ≡ F ++ body = h.begins ∙ ap (λ zs. first ∷ zs) h.says.spelled in
@@ -81,7 +81,7 @@ front-rest octets rest first said body h few e =
     e ∙ ap (λ n. drop n octets) place ∙ ap (λ zs. drop (length F + said) zs) whole ∙ drop-behind F body said
 
 pub whole_piece : (octets own rest : List ℕ) (first said : ℕ) (body : List ℕ) (p : Packet) → IsHead octets first said body → said ≤ MAX_HELD → said ≤ length body
-    → own ≡ take (length octets - length body + said) octets → rest ≡ drop (length octets - length body + said) octets → Spells own p → IsPiece octets p 0 rest
+    → own ≡ take (length octets - length body + said) octets → rest ≡ drop (length octets - length body + said) octets → SpellsPacket own p → IsPiece octets p 0 rest
 whole_piece octets own rest first said body p h small few begun after s =
     let all : held said ≡ said = held-whole said small in
     let none : said - said ≡ 0 = omega arith in
@@ -91,14 +91,14 @@ whole_piece octets own rest first said body p h small few begun after s =
       body = body;
       head = h;
       there = subst (λ n. n ≤ length body) (sym all) few;
-      says = subst (λ n. Says first (take n body) p) (sym all) (framed-says own first (take said body) p (front-framed octets own first said body h few begun) s);
+      says = subst (λ n. SaysPacket first (take n body) p) (sym all) (framed-says own first (take said body) p (front-framed octets own first said body h few begun) s);
       left = sym (ap (λ n. said - n) all ∙ none);
       follows = subst (λ n. rest ≡ drop n body) (sym all) (front-rest octets rest first said body h few after);
     }
 
 -- ---- a packet that is cut
 
-cut-framed : (own kept : List ℕ) (first : ℕ) → length kept ≡ MAX_HELD → own ≡ first ∷ 128 ∷ 192 ∷ 4 ∷ kept → IsFramed own first kept
+cut-framed : (own kept : List ℕ) (first : ℕ) → length kept ≡ MAX_HELD → own ≡ first ∷ 128 ∷ 192 ∷ 4 ∷ kept → IsPacketFramed own first kept
 cut-framed own kept first size e =
     let small : 73728 < 2097152 = omega arith in
     record {
@@ -108,7 +108,7 @@ cut-framed own kept first size e =
     }
 
 pub cut_piece : (octets own kept rest : List ℕ) (first said : ℕ) (body : List ℕ) (p : Packet) → IsHead octets first said body → MAX_HELD < said → MAX_HELD ≤ length body
-    → kept ≡ take MAX_HELD body → rest ≡ drop MAX_HELD body → own ≡ first ∷ 128 ∷ 192 ∷ 4 ∷ kept → Spells own p → IsPiece octets p (said - MAX_HELD) rest
+    → kept ≡ take MAX_HELD body → rest ≡ drop MAX_HELD body → own ≡ first ∷ 128 ∷ 192 ∷ 4 ∷ kept → SpellsPacket own p → IsPiece octets p (said - MAX_HELD) rest
 cut_piece octets own kept rest first said body p h long few begun after is s =
     let cut : held said ≡ MAX_HELD = held-cut said long in
     let size : length kept ≡ MAX_HELD = ap (λ zs. length zs) begun ∙ take-length MAX_HELD body few in
@@ -118,7 +118,7 @@ cut_piece octets own kept rest first said body p h long few begun after is s =
       body = body;
       head = h;
       there = subst (λ n. n ≤ length body) (sym cut) few;
-      says = subst (λ n. Says first (take n body) p) (sym cut) (subst (λ zs. Says first zs p) begun (framed-says own first kept p (cut-framed own kept first size is) s));
+      says = subst (λ n. SaysPacket first (take n body) p) (sym cut) (subst (λ zs. SaysPacket first zs p) begun (framed-says own first kept p (cut-framed own kept first size is) s));
       left = ap (λ n. said - n) (sym cut);
       follows = subst (λ n. rest ≡ drop n body) (sym cut) after;
     }
@@ -130,7 +130,7 @@ pub first_faulty : (octets : List ℕ) (first : ℕ) (after : List ℕ) (fault :
 first_faulty octets first after fault begins why = inl (first, after, begins, why)
 
 -- Remaining Length is none
-pub length_faulty : (octets : List ℕ) (header : Header) (first : ℕ) (after : List ℕ) (fault : PacketFault) → octets ≡ first ∷ after → octet_of header ≡ first
+pub length_faulty : (octets : List ℕ) (header : Header) (first : ℕ) (after : List ℕ) (fault : PacketFault) → octets ≡ first ∷ after → header_octet header ≡ first
     → IsLengthFault after fault → fault ≢ faults.Short → IsFaulty octets fault
 length_faulty octets header first after faults.Short begins known why other = absurd (other refl)
 length_faulty octets header first after faults.TooLong begins known why other =
@@ -149,24 +149,24 @@ memory-or-not faults.Body = inr (λ e. cc)
 memory-or-not faults.Memory = inl refl
 
 refused-by : (octets own : List ℕ) (first said : ℕ) (body : List ℕ) (fault : PacketFault) → IsHead octets first said body → held said ≤ length body
-    → IsFramed own first (take (held said) body) → IsFirstFault own fault → (fault ≡ faults.Memory) ⊎ (fault ≢ faults.Memory) → (fault ≡ faults.Memory) ⊎ IsFaulty octets fault
+    → IsPacketFramed own first (take (held said) body) → IsFirstPacketFault own fault → (fault ≡ faults.Memory) ⊎ (fault ≢ faults.Memory) → (fault ≡ faults.Memory) ⊎ IsFaulty octets fault
 refused-by octets own first said body fault h few framed why (inl starved) = inl starved
 refused-by octets own first said body fault h few framed why (inr real) =
     inr (inr (inr (record { first = first; said = said; body = body; own = own; head = h; there = few; framed = framed; why = why; real = real })))
 
 -- the octets of a whole packet
 pub whole_faulty : (octets own : List ℕ) (first said : ℕ) (body : List ℕ) (fault : PacketFault) → IsHead octets first said body → said ≤ MAX_HELD → said ≤ length body
-    → own ≡ take (length octets - length body + said) octets → IsFirstFault own fault → (fault ≡ faults.Memory) ⊎ IsFaulty octets fault
+    → own ≡ take (length octets - length body + said) octets → IsFirstPacketFault own fault → (fault ≡ faults.Memory) ⊎ IsFaulty octets fault
 whole_faulty octets own first said body fault h small few begun why =
     let all : held said ≡ said = held-whole said small in
     refused-by octets own first said body fault h (subst (λ n. n ≤ length body) (sym all) few)
-    (subst (λ n. IsFramed own first (take n body)) (sym all) (front-framed octets own first said body h few begun)) why (memory-or-not fault)
+    (subst (λ n. IsPacketFramed own first (take n body)) (sym all) (front-framed octets own first said body h few begun)) why (memory-or-not fault)
 
 -- and of one that is cut
 pub cut_faulty : (octets own kept : List ℕ) (first said : ℕ) (body : List ℕ) (fault : PacketFault) → IsHead octets first said body → MAX_HELD < said → MAX_HELD ≤ length body
-    → kept ≡ take MAX_HELD body → own ≡ first ∷ 128 ∷ 192 ∷ 4 ∷ kept → IsFirstFault own fault → (fault ≡ faults.Memory) ⊎ IsFaulty octets fault
+    → kept ≡ take MAX_HELD body → own ≡ first ∷ 128 ∷ 192 ∷ 4 ∷ kept → IsFirstPacketFault own fault → (fault ≡ faults.Memory) ⊎ IsFaulty octets fault
 cut_faulty octets own kept first said body fault h long few begun is why =
     let cut : held said ≡ MAX_HELD = held-cut said long in
     let size : length kept ≡ MAX_HELD = ap (λ zs. length zs) begun ∙ take-length MAX_HELD body few in
     refused-by octets own first said body fault h (subst (λ n. n ≤ length body) (sym cut) few)
-    (subst (λ n. IsFramed own first (take n body)) (sym cut) (subst (λ zs. IsFramed own first zs) begun (cut-framed own kept first size is))) why (memory-or-not fault)
+    (subst (λ n. IsPacketFramed own first (take n body)) (sym cut) (subst (λ zs. IsPacketFramed own first zs) begun (cut-framed own kept first size is))) why (memory-or-not fault)

@@ -2,7 +2,7 @@
 
 ghost use Rattle.std.specs.Prelude.{◌≡◌, ◌<◌, ◌-◌, ◌∷◌, ◌⊎◌, length, drop, IfOk, IfErr, MatchOption};
 ghost use Rattle.mq_stream.specs.declared.front.TheConstants.{MAX_HELD};
-ghost use Rattle.mq_stream.specs.Pieces.{IsFaulty, IsHead, IsPiece, IsWanting};
+ghost use Rattle.mq_stream.specs.Pieces.{IsFaulty, IsHead, IsPiece, LacksPacket};
 
 use mq_packet::{Header, Packet, PacketFault, decode, remaining};
 use octets::NoMemory;
@@ -36,7 +36,7 @@ pub(crate) fn passed(over: u32, octets: &[u8]) -> (u32, &[u8])
 /// packet begins with is a fault at once.
 #[tactic(auto, using(crate::proofs::Whole::first_faulty, crate::proofs::Whole::length_faulty))]
 pub(crate) fn front(alloc: Global, octets: &[u8]) -> Result<Option<InFront<'_>>, PacketFault>
-    ensures ok { IfOk result (λ found. MatchOption found (IsWanting octets.now)
+    ensures ok { IfOk result (λ found. MatchOption found (LacksPacket octets.now)
         (λ f. IsPiece octets.now f.packet f.over f.rest.now)) }
     ensures err { IfErr result (λ e. (e ≡ PacketFault.Memory) ⊎ IsFaulty octets.now e) }
 {
@@ -60,7 +60,7 @@ fn whole<'a>(
     body: &'a [u8],
 ) -> Result<Option<InFront<'a>>, PacketFault>
     requires { IsHead octets.now first said body.now }
-    ensures ok { IfOk result (λ found. MatchOption found (IsWanting octets.now)
+    ensures ok { IfOk result (λ found. MatchOption found (LacksPacket octets.now)
         (λ f. IsPiece octets.now f.packet f.over f.rest.now)) }
     ensures err { IfErr result (λ e. (e ≡ PacketFault.Memory) ⊎ IsFaulty octets.now e) }
 {
@@ -87,7 +87,7 @@ fn cut<'a>(
 ) -> Result<Option<InFront<'a>>, PacketFault>
     requires head { IsHead _octets.now first said body.now }
     requires long { MAX_HELD < said }
-    ensures ok { IfOk result (λ found. MatchOption found (IsWanting _octets.now)
+    ensures ok { IfOk result (λ found. MatchOption found (LacksPacket _octets.now)
         (λ f. IsPiece _octets.now f.packet f.over f.rest.now)) }
     ensures err { IfErr result (λ e. (e ≡ PacketFault.Memory) ⊎ IsFaulty _octets.now e) }
 {

@@ -1,7 +1,7 @@
 //! A connection from which octets come in pieces.
 
 ghost use Rattle.std.specs.Prelude.{◌≡◌, ◌≢◌, ◌≤◌, ◌-◌, ◌++◌, length, drop, IfOk, OnErr};
-ghost use Rattle.mq_stream.specs.Pieces.{Ends, Reads};
+ghost use Rattle.mq_stream.specs.Pieces.{EndsPackets, ReadsPackets};
 
 use crate::front::{front, passed};
 use mq_packet::{Packet, PacketFault};
@@ -43,9 +43,10 @@ impl PacketIn {
     ///
     /// If memory runs out, the connection is as it was.
     pub fn feed(&mut self, alloc: Global, piece: &[u8]) -> Result<Fed, NoMemory>
-        ensures ok { IfOk result (λ fed. Reads self.old.over (self.old.waiting.items ++ piece.now)
+        ensures ok { IfOk result
+            (λ fed. ReadsPackets self.old.over (self.old.waiting.items ++ piece.now)
             fed.packets.items self.new.over self.new.waiting.items
-            × Ends fed.fault self.new.waiting.items) }
+            × EndsPackets fed.fault self.new.waiting.items) }
         ensures waiting { OnErr result (self.new.waiting.items ≡ self.old.waiting.items) }
         ensures over { OnErr result (self.new.over ≡ self.old.over) }
     {
@@ -79,9 +80,9 @@ fn real(fault: PacketFault) -> Result<PacketFault, NoMemory>
 /// The packets in front of the octets and what stands after them; how many octets are still to be
 /// passed over, and how many are left.
 fn read_packets(alloc: Global, over: u32, octets: &[u8]) -> Result<(Fed, u32, usize), NoMemory>
-    ensures { IfOk result (λ read. (read.2 ≤ length octets.now) × Reads over octets.now
+    ensures { IfOk result (λ read. (read.2 ≤ length octets.now) × ReadsPackets over octets.now
         read.0.packets.items read.1 (drop (length octets.now - read.2) octets.now)
-        × Ends read.0.fault (drop (length octets.now - read.2) octets.now)) }
+        × EndsPackets read.0.fault (drop (length octets.now - read.2) octets.now)) }
 {
     let mut packets = Vec::new(alloc);
     let (mut left, mut rest) = passed(over, octets);

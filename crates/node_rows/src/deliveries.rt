@@ -11,24 +11,13 @@ use octets::NoMemory;
 use rep_model::{ClientView, Replica};
 use rep_ops::Put;
 use sn_deliver::acknowledge;
-use sn_exchange::{Peer, then_deliver, then_resend};
+use sn_exchange::{Peer, Visit, then_deliver, then_resend};
 use sn_frame::{Flags, Frame, FrameFault};
 use sn_local::Addr;
 use sn_plan::Draft;
 use sn_publish::{Meant, pubrel, topic_meant};
 use sn_session::Session;
-use sn_topic::Predefined;
 use std::alloc::Global;
-
-/// What a line drafts from.
-#[derive(Clone, Copy)]
-struct Visit<'a> {
-    predefined: &'a Predefined,
-    peer: &'a Peer,
-    session: &'a Session,
-    /// The messages that wait.
-    pending: &'a [Put],
-}
 
 /// Plays a line about a client of the gateway.
 pub(crate) fn play<R: Replica>(
@@ -128,16 +117,7 @@ fn play_visit(page: &mut Page, visit: &Visit, first: &str, octets: &[u8]) {
 /// `deliver CLIENT`: what waits goes out.
 fn deliver(page: &mut Page, visit: &Visit) {
     let mut draft = Draft::new(page.alloc());
-    let (predefined, peer) = (visit.predefined, visit.peer);
-    let (session, pending) = (visit.session, visit.pending);
-    let is_short = then_deliver(
-        page.alloc(),
-        predefined,
-        peer,
-        session,
-        pending,
-        &mut draft,
-    ).is_err();
+    let is_short = then_deliver(page.alloc(), visit, &mut draft).is_err();
     page.stop_if_short(is_short);
     print_draft(page, draft);
 }
@@ -145,16 +125,7 @@ fn deliver(page: &mut Page, visit: &Visit) {
 /// `resend CLIENT`: what was sent goes out again.
 fn resend(page: &mut Page, visit: &Visit) {
     let mut draft = Draft::new(page.alloc());
-    let (predefined, peer) = (visit.predefined, visit.peer);
-    let (session, pending) = (visit.session, visit.pending);
-    let is_short = then_resend(
-        page.alloc(),
-        predefined,
-        peer,
-        session,
-        pending,
-        &mut draft,
-    ).is_err();
+    let is_short = then_resend(page.alloc(), visit, &mut draft).is_err();
     page.stop_if_short(is_short);
     print_draft(page, draft);
 }
@@ -181,11 +152,9 @@ fn hear_frame(page: &mut Page, visit: &Visit, frame: &Frame) {
 
 /// The draft of a client that releases its own message by this frame, or acknowledges one.
 fn heard(alloc: Global, visit: &Visit, frame: &Frame) -> Result<Draft, NoMemory> {
-    let (predefined, peer) = (visit.predefined, visit.peer);
-    let (session, pending) = (visit.session, visit.pending);
     match frame {
-        Frame::PubRel { msg_id } => pubrel(alloc, peer.address, session, *msg_id),
-        frame => acknowledge(alloc, predefined, peer, session, pending, frame),
+        Frame::PubRel { msg_id } => pubrel(alloc, visit.peer.address, visit.session, *msg_id),
+        frame => acknowledge(alloc, visit, frame),
     }
 }
 

@@ -148,10 +148,8 @@ use rep_model::Replica;
 use rep_plain::Plain;
 use rep_state::Folded;
 use std::alloc::{AllocError, Global};
-use std::fs::{File, Files};
 use std::io::{self, Input, Write};
 use std::mem;
-use std::net::Net;
 use std::process::ExitCode;
 use std::sync::Wait;
 use std::thread::Threads;
@@ -187,7 +185,7 @@ struct Begun<R: Replica> {
 }
 
 fn main(rt: HostRuntime) -> ExitCode {
-    let mut page = Page::new(rt.alloc());
+    let mut page = Page::new(rt);
     play_input(&rt, &mut page);
     write(&rt, &mut page);
     let reason = page.reason();
@@ -196,7 +194,7 @@ fn main(rt: HostRuntime) -> ExitCode {
 }
 
 /// The status to end with. Tells the reason, if there is one.
-fn end<T: Eprint>(rt: &T, reason: Option<Stop>) -> ExitCode {
+fn end(rt: &HostRuntime, reason: Option<Stop>) -> ExitCode {
     match reason {
         None => ExitCode::SUCCESS,
         Some(stop) => {
@@ -209,10 +207,10 @@ fn end<T: Eprint>(rt: &T, reason: Option<Stop>) -> ExitCode {
 /// Plays all lines of standard input.
 fn play_input<T>(rt: &T, page: &mut Page)
 where
-    T: Threads + Wait + Sync + Clock + Net + Files<File = File> + Input + Eprint + AllocGlobal,
+    T: Threads + Wait + Sync + Clock,
 {
-    let mut lines = Vec::new(rt.alloc());
-    match read_lines(rt, &mut lines) {
+    let mut lines = Vec::new(page.alloc());
+    match read_lines(&page.host(), &mut lines) {
         Ok(()) => play_parts(rt, page, lines.as_slice()),
         Err(stop) => page.stop(stop),
     }
@@ -220,7 +218,7 @@ where
 }
 
 /// The lines of standard input.
-fn read_lines<T: Input + AllocGlobal>(rt: &T, lines: &mut Vec<String>) -> Result<(), Stop> {
+fn read_lines(rt: &HostRuntime, lines: &mut Vec<String>) -> Result<(), Stop> {
     let mut read = Ok(());
     for line in rt.lines(rt.alloc()) {
         read = read_line(lines, line);
@@ -252,7 +250,7 @@ fn push(lines: &mut Vec<String>, line: String) -> Result<(), Stop> {
 }
 
 /// Writes the page, unless something else than a line ended the play.
-fn write<T: Print>(rt: &T, page: &mut Page) {
+fn write(rt: &HostRuntime, page: &mut Page) {
     if page.reason().is_none() {
         let written = io::writer(rt).write_all(page.printed().as_bytes());
         if let Err(error) = &written {
@@ -266,7 +264,7 @@ fn write<T: Print>(rt: &T, page: &mut Page) {
 /// it on once.
 fn play_parts<T>(rt: &T, page: &mut Page, lines: &[String])
 where
-    T: Threads + Wait + Sync + Clock + Net + Files<File = File> + Eprint + AllocGlobal,
+    T: Threads + Wait + Sync + Clock,
 {
     let (rows, others) = lines.split_at(front(lines).min(lines.len()));
     if !rows.is_empty() {
@@ -289,9 +287,9 @@ fn front(lines: &[String]) -> usize {
 /// so; where it is not, what each prints.
 fn play_both<T>(rt: &T, page: &mut Page, lines: &[String])
 where
-    T: Threads + Wait + Sync + Clock + Net + Files<File = File> + Eprint + AllocGlobal,
+    T: Threads + Wait + Sync + Clock,
 {
-    let mut plain = Page::new(rt.alloc());
+    let mut plain = Page::new(page.host());
     play_lines::<T, Folded>(rt, page, lines);
     play_lines::<T, Plain>(rt, &mut plain, lines);
     compare(page, &plain);
@@ -319,11 +317,11 @@ fn print_difference(page: &mut Page, plain: &str) {
 /// Plays lines on a replica, one after the other, until something else than a line ends the play.
 fn play_lines<T, R>(rt: &T, page: &mut Page, lines: &[String])
 where
-    T: Threads + Wait + Sync + Clock + Net + Files<File = File> + Eprint + AllocGlobal,
+    T: Threads + Wait + Sync + Clock,
     R: Replica + Send,
     R::Staged: Send,
 {
-    let mut play: Play<R> = begin(rt.alloc());
+    let mut play: Play<R> = begin(page.alloc());
     play_all(rt, page, &mut play, lines);
     leave(page, &mut play.begun.shifts);
     drop(play);
@@ -332,7 +330,7 @@ where
 /// Plays lines, one after the other, until something else than a line ends the play.
 fn play_all<T, R>(rt: &T, page: &mut Page, play: &mut Play<R>, lines: &[String])
 where
-    T: Threads + Wait + Sync + Clock + Net + Files<File = File> + Eprint + AllocGlobal,
+    T: Threads + Wait + Sync + Clock,
     R: Replica + Send,
     R::Staged: Send,
 {
@@ -364,7 +362,7 @@ fn blank<R: Replica>(alloc: Global) -> Begun<R> {
 /// Plays a line; empty ones and explanations say nothing.
 fn answer<T, R>(rt: &T, page: &mut Page, play: &mut Play<R>, line: &str)
 where
-    T: Threads + Wait + Sync + Clock + Net + Files<File = File> + Eprint + AllocGlobal,
+    T: Threads + Wait + Sync + Clock,
     R: Replica + Send,
     R::Staged: Send,
 {
@@ -398,7 +396,7 @@ fn print_name(page: &mut Page, name: &str) {
 /// Plays a heading or a line of words; tells a line that is none of the language.
 fn answer_words<T, R>(rt: &T, page: &mut Page, play: &mut Play<R>, line: &str)
 where
-    T: Threads + Wait + Sync + Clock + Net + Files<File = File> + Eprint + AllocGlobal,
+    T: Threads + Wait + Sync + Clock,
     R: Replica + Send,
     R::Staged: Send,
 {
@@ -431,7 +429,7 @@ fn print_refused(page: &mut Page, line: &str) {
 /// Plays a line of the text of settings, or one of words.
 fn play_text<T, R>(rt: &T, page: &mut Page, play: &mut Play<R>, line: &str)
 where
-    T: Threads + Wait + Sync + Clock + Net + Files<File = File> + Eprint + AllocGlobal,
+    T: Threads + Wait + Sync + Clock,
     R: Replica + Send,
     R::Staged: Send,
 {
@@ -444,7 +442,7 @@ where
 /// Plays a line of words.
 fn play_words<T, R>(rt: &T, page: &mut Page, play: &mut Play<R>, line: &str)
 where
-    T: Threads + Wait + Sync + Clock + Net + Files<File = File> + Eprint + AllocGlobal,
+    T: Threads + Wait + Sync + Clock,
     R: Replica + Send,
     R::Staged: Send,
 {
@@ -464,12 +462,12 @@ fn words_of(alloc: Global, line: &str) -> Result<Vec<&str>, AllocError> {
 /// Plays a line that is about names, or one of the part.
 fn play_line<T, R>(rt: &T, page: &mut Page, play: &mut Play<R>, words: &[&str])
 where
-    T: Threads + Wait + Sync + Clock + Net + Files<File = File> + Eprint + AllocGlobal,
+    T: Threads + Wait + Sync + Clock,
     R: Replica + Send,
     R::Staged: Send,
 {
     if !play_name(page, &mut play.names, words) {
-        let mut words = Words::new(rt.alloc(), &play.names, words);
+        let mut words = Words::new(page.alloc(), &play.names, words);
         play_part(rt, page, play.part, &mut play.begun, &mut words);
     }
 }
@@ -492,7 +490,7 @@ fn play_name(page: &mut Page, names: &mut Names, words: &[&str]) -> bool {
 /// Plays a line of a part.
 fn play_part<T, R>(rt: &T, page: &mut Page, part: Part, begun: &mut Begun<R>, words: &mut Words)
 where
-    T: Threads + Wait + Sync + Clock + Net + Files<File = File> + Eprint + AllocGlobal,
+    T: Threads + Wait + Sync + Clock,
     R: Replica + Send,
     R::Staged: Send,
 {

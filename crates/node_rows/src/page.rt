@@ -11,6 +11,7 @@ use std::fmt::Display;
 /// All that the program prints, and why it prints no more.
 #[derive(Drop)]
 pub(crate) struct Page {
+    host: HostRuntime,
     alloc: Global,
     printed: String,
     /// The first reason.
@@ -19,12 +20,19 @@ pub(crate) struct Page {
 
 impl Page {
     /// An empty page.
-    pub(crate) fn new(alloc: Global) -> Page {
+    pub(crate) fn new(host: HostRuntime) -> Page {
+        let alloc = host.alloc();
         Page {
+            host,
             alloc,
             printed: String::new(alloc),
             reason: None,
         }
+    }
+
+    /// The machine.
+    pub(crate) fn host(&self) -> HostRuntime {
+        self.host
     }
 
     /// Where memory comes from.

@@ -56,6 +56,14 @@ impl Start {
             thread::yield_now();
         }
     }
+
+    /// Notes if memory ran out in a thread, whose calls brought this.
+    fn note(&self, turn: Turn) {
+        if turn.is_short {
+            self.is_short.store(true, Ordering::SeqCst);
+        }
+        drop(turn);
+    }
 }
 
 /// What the calls of a pass brought, one after the other.
@@ -264,24 +272,6 @@ pub(crate) fn call_often<W: Wait, R: Replica, D: Disk + Drop>(
     turn
 }
 
-/// The same once all threads have come to this point. Notes if memory ran out.
-fn call_at_once<W: Wait, R: Replica, D: Disk + Drop>(
-    rt: &W,
-    alloc: Global,
-    shift: &Shift<R, D>,
-    start: &Start,
-    seat: &mut Seat,
-    step: &Arc<Step>,
-    calls: usize,
-) {
-    start.wait();
-    let turn = call_often(rt, alloc, shift, seat, step, calls);
-    if turn.is_short {
-        start.is_short.store(true, Ordering::SeqCst);
-    }
-    drop(turn);
-}
-
 /// The passes in the seats make a call so many times each, each pass in a thread of its own and all
 /// at once. Whether memory ran out.
 pub(crate) fn call_all<T, R, D>(
@@ -302,7 +292,8 @@ where
     let start = Start::new(threads);
     if threads > 0 {
         let take_turn = |_place: usize, seat: &mut Seat| {
-            call_at_once(rt, alloc, shift, &start, seat, step, calls)
+            start.wait();
+            start.note(call_often(rt, alloc, shift, seat, step, calls))
         };
         thread::for_each_mut(rt, seats, threads, &take_turn);
     }

@@ -107,7 +107,7 @@ pub(crate) fn play<T, R>(
     words: &mut Words,
 )
 where
-    T: Threads + Wait + Sync + AllocGlobal,
+    T: Threads + Wait + Sync,
     R: Replica + Send,
     R::Staged: Send,
 {
@@ -139,7 +139,7 @@ fn is_of_bounds(first: &str) -> bool {
 /// Lines about calls of passes.
 fn play_calls<T, R>(rt: &T, page: &mut Page, shifts: &mut Shifts<R>, first: &str, words: &mut Words)
 where
-    T: Threads + Wait + Sync + AllocGlobal,
+    T: Threads + Wait + Sync,
     R: Replica + Send,
     R::Staged: Send,
 {
@@ -277,7 +277,7 @@ fn read_order(first: &str, words: &mut Words) -> Order {
 /// `pass PLACE CALL`, `often PLACE COUNT CALL`, `together PLACE COUNT CALL`: passes make a call.
 fn make_call<T, R>(rt: &T, page: &mut Page, shifts: &mut Shifts<R>, first: &str, words: &mut Words)
 where
-    T: Threads + Wait + Sync + AllocGlobal,
+    T: Threads + Wait + Sync,
     R: Replica + Send,
     R::Staged: Send,
 {
@@ -291,7 +291,7 @@ where
 /// Passes make a call in the shift that is open.
 fn call_by<T, R>(rt: &T, page: &mut Page, shifts: &mut Shifts<R>, order: &Order)
 where
-    T: Threads + Wait + Sync + AllocGlobal,
+    T: Threads + Wait + Sync,
     R: Replica + Send,
     R::Staged: Send,
 {
@@ -310,7 +310,7 @@ fn call_in<T, R>(
     order: &Order,
 )
 where
-    T: Threads + Wait + Sync + AllocGlobal,
+    T: Threads + Wait + Sync,
     R: Replica + Send,
     R::Staged: Send,
 {
@@ -325,7 +325,7 @@ where
 }
 
 /// The pass at a place makes a call.
-fn call_once<T: Wait + AllocGlobal, R: Replica>(
+fn call_once<T: Wait, R: Replica>(
     rt: &T,
     page: &mut Page,
     shift: &Shift<R, MemoryDisk>,
@@ -335,7 +335,7 @@ fn call_once<T: Wait + AllocGlobal, R: Replica>(
 ) {
     match seats.get_mut(order.place) {
         Some(seat) => {
-            let called = call(rt, rt.alloc(), shift, seat, step);
+            let called = call(rt, page.alloc(), shift, seat, step);
             print_call(page, called);
         }
         None => page.stop(Stop::Line),
@@ -352,7 +352,7 @@ fn print_call(page: &mut Page, called: Option<Called>) {
 }
 
 /// The pass at a place makes a call so many times.
-fn call_repeatedly<T: Wait + AllocGlobal, R: Replica>(
+fn call_repeatedly<T: Wait, R: Replica>(
     rt: &T,
     page: &mut Page,
     shift: &Shift<R, MemoryDisk>,
@@ -362,7 +362,7 @@ fn call_repeatedly<T: Wait + AllocGlobal, R: Replica>(
 ) {
     match seats.get_mut(order.place) {
         Some(seat) => {
-            let turn = call_often(rt, rt.alloc(), shift, seat, step, order.count);
+            let turn = call_often(rt, page.alloc(), shift, seat, step, order.count);
             print_count(page, turn);
         }
         None => page.stop(Stop::Line),
@@ -387,7 +387,7 @@ fn call_together<T, R>(
     step: &Arc<Step>,
 )
 where
-    T: Threads + Wait + Sync + AllocGlobal,
+    T: Threads + Wait + Sync,
     R: Replica + Send,
     R::Staged: Send,
 {
@@ -396,7 +396,7 @@ where
     } else {
         let from = order.place.min(seats.len());
         let (_others, seats) = seats.split_at_mut(from);
-        let is_short = call_all(rt, rt.alloc(), shift, seats, step, order.count);
+        let is_short = call_all(rt, page.alloc(), shift, seats, step, order.count);
         page.stop_if_short(is_short);
     }
 }
@@ -428,7 +428,7 @@ fn add_planned(page: &mut Page, planned: &mut Vec<Arc<Step>>, step: Option<Arc<S
 /// and the pass at the second place the third, each pass in a thread of its own.
 fn call_beside<T, R>(rt: &T, page: &mut Page, shifts: &mut Shifts<R>, words: &mut Words)
 where
-    T: Threads + Wait + Sync + AllocGlobal,
+    T: Threads + Wait + Sync,
     R: Replica + Send,
     R::Staged: Send,
 {
@@ -443,7 +443,7 @@ where
 
 /// `row PLACE COUNT`: the pass at this place makes the calls that are planned in a row. So many are
 /// made, and planned no more; the others are for another row. Fewer are made if memory ran out.
-fn call_in_row<T: Wait + AllocGlobal, R: Replica>(
+fn call_in_row<T: Wait, R: Replica>(
     rt: &T,
     page: &mut Page,
     shifts: &mut Shifts<R>,
@@ -461,7 +461,7 @@ fn call_in_row<T: Wait + AllocGlobal, R: Replica>(
 }
 
 /// The pass at a place makes the calls that are planned, in one row. Says how many were made.
-fn call_planned<T: Wait + AllocGlobal, R: Replica>(
+fn call_planned<T: Wait, R: Replica>(
     rt: &T,
     page: &mut Page,
     shifts: &mut Shifts<R>,
@@ -486,14 +486,14 @@ fn forget_first(planned: &mut Vec<Arc<Step>>, count: usize) {
 }
 
 /// The pass in a seat makes the first of these calls in a row. Says how many were made.
-fn play_one_row<T: Wait + AllocGlobal, R: Replica>(
+fn play_one_row<T: Wait, R: Replica>(
     rt: &T,
     page: &mut Page,
     shift: &Shift<R, MemoryDisk>,
     seat: &mut Seat,
     steps: &[Arc<Step>],
 ) -> usize {
-    match call_row(rt, rt.alloc(), shift, seat, steps) {
+    match call_row(rt, page.alloc(), shift, seat, steps) {
         Some(Ok((answers, first))) => {
             print_row(page, answers.as_slice(), first);
             let count = answers.len();
@@ -519,7 +519,7 @@ fn forget_three(planned: &mut Vec<Arc<Step>>) {
 /// own, and sit down again.
 fn call_two<T, R>(rt: &T, page: &mut Page, shifts: &mut Shifts<R>, first: usize, second: usize)
 where
-    T: Threads + Wait + Sync + AllocGlobal,
+    T: Threads + Wait + Sync,
     R: Replica + Send,
     R::Staged: Send,
 {
@@ -527,7 +527,7 @@ where
         if let [.., one, other, last] = shifts.planned.as_slice() {
             let seats = shifts.seats.as_mut_slice();
             let passes = (rise(seats, first), rise(seats, second));
-            let made = side_by_side(rt, rt.alloc(), shift, passes, (one, other, last));
+            let made = side_by_side(rt, page.alloc(), shift, passes, (one, other, last));
             sit(page, seats, (first, second), made);
         }
     }
@@ -561,7 +561,7 @@ fn print_turns(page: &mut Page, calls: &Turn, call: &Turn) {
 /// number, at most so many.
 fn ask_after<T, R>(rt: &T, page: &mut Page, shifts: &Shifts<R>, words: &mut Words)
 where
-    T: Wait + AllocGlobal,
+    T: Wait,
     R: Replica,
 {
     let place = words.count();
@@ -583,12 +583,12 @@ fn print_after<T, R>(
     most: usize,
 )
 where
-    T: Wait + AllocGlobal,
+    T: Wait,
     R: Replica,
 {
     if let Some(shift) = &shifts.open {
         if let Some(Some(pass)) = shifts.seats.as_slice().get(place) {
-            let made = after(rt, rt.alloc(), shift, pass, above, most);
+            let made = after(rt, page.alloc(), shift, pass, above, most);
             print_made(page, made);
         }
     }

@@ -26,6 +26,7 @@
 //!   second are out, but not longer than ten million turns.
 //! - `datagram HOST MOMENT OCTETS`: a datagram comes, from port 1 of a host.
 //! - `failure`: a receive fails.
+//! - `over`: the wire is over: no more is to be received.
 //!
 //! Serving, in a shift of the gateway that is open, which goes on after it:
 //!

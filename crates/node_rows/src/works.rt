@@ -46,7 +46,7 @@ use std::time::Clock;
 /// Plays a line whose first word this is.
 pub(crate) fn play<T>(rt: &T, page: &mut Page, name: &str, words: &mut Words)
 where
-    T: Threads + Wait + Sync + Clock + Eprint + AllocGlobal,
+    T: Threads + Wait + Sync + Clock,
 {
     let count = words.large();
     if words.has_more() {

@@ -7,13 +7,13 @@ use Rattle.sn_tables.proofs.Ascending.{all_with}
 use Rattle.sn_session.specs.declared.session.Session.{Session}
 use Rattle.sn_session.specs.declared.change.SessionOp.{SessionOp}
 use Rattle.sn_session.specs.declared.change.SessionOp.TheVariants.{Take, Presence as SetPresence}
-use Rattle.sn_session.specs.Session.{empty_session, is_full, changed as session_changed, applied}
+use Rattle.sn_session.specs.Session.{empty_session, is_full, session_changed, applied}
 use Rattle.sn_frame.specs.declared.frame.Frame.{Frame}
 use Rattle.rep_op.specs.declared.op.Stamp.{Stamp}
 use Rattle.rep_op.specs.declared.op.Op.{Op}
 use Rattle.rep_op.specs.Orders.{name_of, stamp_cmp}
 use Rattle.rep_op.specs.Sets.{Same, same_client, operation_at}
-use Rattle.rep_model.specs.Views.{view, visible, gapless, session_of as session_made}
+use Rattle.rep_model.specs.Views.{view, visible, gapless, session_made}
 use Rattle.rep_model.proofs.Lookup.{or_else}
 use Rattle.rep_model.proofs.Greatest.{has, same_greatest}
 use Rattle.rep_model.proofs.Readers.{stamp_total, stamp_exact, same_client-true, operation_at_both, takes, has_take}
@@ -28,15 +28,15 @@ use Rattle.sn_plan.specs.declared.plan.Plan.{Plan}
 use Rattle.sn_plan.specs.declared.row.Row.{Row}
 use Rattle.sn_plan.specs.declared.row.Follow.{Follow}
 use Rattle.sn_plan.specs.declared.row.Follow.TheVariants as follows
-use Rattle.sn_local.specs.Bindings.{same_address, binding_cmp, is_apart, bound, is_of_other, unbound, binding_change, bindings_after, client_at, address_of, is_stamp_of, is_owned, has_owned, owned_bindings}
+use Rattle.sn_local.specs.Bindings.{same_address, binding_cmp, is_other_binding, bound, is_of_other, unbound, binding_change, bindings_after, client_at, address_of, is_stamp_of, is_owned, has_owned, owned_bindings}
 use Rattle.sn_plan.specs.Bound.{session_of}
 use Rattle.sn_plan.specs.Drafts.{Drafted, nothing, acked, lasting, moved}
-use Rattle.sn_plan.specs.Flush.{stamp_of, IsFlush, AreFlush, session_with}
+use Rattle.sn_plan.specs.Flush.{stamp_of, IsFlush, HaveNoGap, session_with}
 use Rattle.sn_local.specs.Lifetimes.{expires_at}
 use Rattle.sn_local.specs.Locals.{Local, after_all, owned}
-use Rattle.sn_plan.specs.Numbering.{planned, plan_with, rest_of, numbered, written, start_of, ack_of}
+use Rattle.sn_plan.specs.Numbering.{planned, plan_with, rest_of, numbered, changes_written, start_of, ack_of}
 use Rattle.sn_plan.specs.Others.{is_up, can_wake}
-use Rattle.sn_plan.specs.Own.{AddsNone}
+use Rattle.sn_plan.specs.Own.{AddsNothingOwn}
 use Rattle.sn_local.specs.Seen.{Seen, seen_of}
 use Rattle.sn_plan.specs.Plans.{plan_of, plan_of_puts, plan_without}
 use Rattle.sn_plan.specs.Rows.{row_of, row_lasting, plan_for}
@@ -52,7 +52,7 @@ use Rattle.sn_tick.specs.Due.{elapsed, first_due}
 use Rattle.sn_tick.specs.Expiry.{under_way, is_expired, expiry_acked, expire_all}
 use Rattle.sn_exchange.specs.Following.{peer_at, followed_for, followed, deliver_next}
 use Rattle.sn_deliver.specs.Steps.{row_for, step}
-use Rattle.sn_tick.specs.Ticking.{dialog_ended, dialogs_ended, needs_timer, timer_begun, cleaned, may_advertise, advertised_to, advertised, lost, plan_due, plan_if_due, tick}
+use Rattle.sn_tick.specs.Ticking.{dialog_ended, dialogs_ended, needs_timer, timer_begun, begin_tick, may_advertise, advertised_to, advertised, lost, plan_due, plan_if_due, tick}
 use Rattle.plan_laws.specs.BoundUp.{IsClientUp, IsUp}
 use Rattle.plan_laws.proofs.BoundDrafts.{KeepsUp, IsNoBind, BindsTo, BeginsAnew, IsViewUp, Stays, Comes, Goes, Fits, followed-fits}
 use Rattle.plan_laws.proofs.BoundRows.{FitsFor, FitsRow, row-fits}
@@ -74,7 +74,7 @@ module _ (P : Binding → Type 0) where
   -- a binding that is there after a new one is the new one, or was there
   all-bound : (a : Addr) (c : List ℕ) (bindings : List Binding) → P (record { address = a; client = c }) → AllByRecursion P bindings → AllByRecursion P (bound a c bindings)
   all-bound a c bindings new all =
-      all_with binding_cmp P (record { address = a; client = c }) (filter (is_apart a c) bindings) new (all-kept (is_apart a c) bindings all)
+      all_with binding_cmp P (record { address = a; client = c }) (filter (is_other_binding a c) bindings) new (all-kept (is_other_binding a c) bindings all)
 
   -- one that is there after the end of a client's binding was there, and is of another
   all-unbound : (c : List ℕ) (bindings : List Binding) → AllByRecursion P bindings → AllByRecursion (λ (b : Binding). P b × (is_of_other c b ≡ true)) (unbound c bindings)
@@ -224,7 +224,7 @@ module _ (g : ℕ) (c : List ℕ) (S : List Op) (d : Drafted) (plan : Plan) (pla
   unfolding planned
   plan-local =
       let seen : Seen = seen_of S in
-      let m = and_then-some (rest_of g c (λ e. seen.seq e g) seen.clock d) (written c g d.changes (start_of g (seen.of c) (seen.epoch c))) plan planned_so in
+      let m = and_then-some (rest_of g c (λ e. seen.seq e g) seen.clock d) (changes_written c g d.changes (start_of g (seen.of c) (seen.epoch c))) plan planned_so in
       let n = map-some (plan_with d) (numbered g c (λ e. seen.seq e g) seen.clock d (m.0.ops ++ map (ack_of c) d.acks)) plan m.2 in
       ap (λ (p : Plan). p.local) (sym n.2)
 
@@ -234,7 +234,7 @@ module _ (g : ℕ) (c : List ℕ) (S : List Op) (d : Drafted) (plan : Plan) (pla
 
 -- ---- a plan for a client, or for nobody
 
-module _ (g : ℕ) (S : List Op) (flush : AreFlush g S) (local : Local) (up : IsUp g S local) (plan : Plan) (delta : List Op) (same : Same delta plan.ops) where
+module _ (g : ℕ) (S : List Op) (flush : HaveNoGap g S) (local : Local) (up : IsUp g S local) (plan : Plan) (delta : List Op) (same : Same delta plan.ops) where
   abbrev IsUpBehind : Type 0
   IsUpBehind = IsUp g (S ++ delta) (after_all local plan.local)
 
@@ -297,7 +297,7 @@ module _ (g : ℕ) (S : List Op) (flush : AreFlush g S) (local : Local) (up : Is
   begun-stays timers now d c h =
       choose-stays (needs_timer g timers c (view c S)) (moved (Heard c now) d) d (moved-stays (Heard c now) d tt h) h
 
-  cleaned-stays : (now : ℕ) → Stays (cleaned g (seen_of S) local now)
+  cleaned-stays : (now : ℕ) → Stays (begin_tick g (seen_of S) local now)
   cleaned-stays now =
       fold-stays (timer_begun g (seen_of S) local.timers now) (begun-stays local.timers now) (seen_of S).all (dialogs_ended now local.dialogs nothing)
       (fold-stays (dialog_ended now) (ended-stays now) local.dialogs nothing (tt, tt))
@@ -332,7 +332,7 @@ module _ (g : ℕ) (S : List Op) (flush : AreFlush g S) (local : Local) (up : Is
 
   pub tick-up : (lifetime : ℕ) (predefined : Entries) (advertise : ℕ) (field : List Addr) (now : ℕ) → tick g lifetime advertise field predefined (seen_of S) local now ≡ Some plan → IsUpBehind
   tick-up lifetime predefined advertise field now e =
-      let d : Drafted = lasting (expires_at lifetime now) (cleaned g (seen_of S) local now) in
+      let d : Drafted = lasting (expires_at lifetime now) (begin_tick g (seen_of S) local now) in
       let h : Stays d = cleaned-stays now in
       either-way (may_advertise advertise field now local.advertised) (Some (plan_without (advertised g advertise field now d)))
       (plan_if_due g predefined (seen_of S) local now d (first_due g (seen_of S) local now (seen_of S).all))
@@ -346,7 +346,7 @@ known (Some x) b f = refl
 known None None f = refl
 known None (Some y) f = sym (f y refl)
 
-module _ (g : ℕ) (c : List ℕ) (S D : List Op) (none : AddsNone g c S D) where
+module _ (g : ℕ) (c : List ℕ) (S D : List Op) (none : AddsNothingOwn g c S D) where
   own-same : (epoch k : ℕ) → operation_at c (S ++ D) (stamp_of epoch g, k) ≡ operation_at c S (stamp_of epoch g, k)
   own-same epoch k = operation_at_both c S D (stamp_of epoch g, k) ∙ known (operation_at c S (stamp_of epoch g, k)) (operation_at c D (stamp_of epoch g, k)) (none epoch k)
 
@@ -373,7 +373,7 @@ module _ (g : ℕ) (c : List ℕ) (S D : List Op) (none : AddsNone g c S D) wher
   taken-client : IsClientUp g S c → is_owned g (seen_of (S ++ D)) c ≡ true → IsClientUp g (S ++ D) c
   taken-client up own = (own, ap can_wake (own-session (visible c (S ++ D)) refl own) ∙ up.1)
 
-pub taken-up : (g : ℕ) (S D : List Op) (local : Local) → IsUp g S local → ((c : List ℕ) → AddsNone g c S D) → IsUp g (S ++ D) (owned g (seen_of (S ++ D)) local)
+pub taken-up : (g : ℕ) (S D : List Op) (local : Local) → IsUp g S local → ((c : List ℕ) → AddsNothingOwn g c S D) → IsUp g (S ++ D) (owned g (seen_of (S ++ D)) local)
 taken-up g S D local up none =
     let after : Seen = seen_of (S ++ D) in
     all-weaken (λ (b : Binding). IsClientUp g S b.client × (has_owned g after b ≡ true)) (λ (b : Binding). IsClientUp g (S ++ D) b.client)

@@ -33,7 +33,7 @@ use Rattle.sn_exchange.specs.declared.peer.Peer.{Peer}
 use Rattle.sn_exchange.specs.declared.delivery.ToldId.{ToldId}
 use Rattle.sn_exchange.specs.Forms.{form_of, form_again, publication}
 use Rattle.sn_exchange.specs.Exchanges.{left, put_left, message_of, open_exchange, is_served, is_awake}
-use Rattle.sn_exchange.specs.Delivery.{next_after, Stop, begun, entry_or_fresh, id_to_tell, register_first, deliver_by, and_then, deliver, deliver_left, deliver_if}
+use Rattle.sn_exchange.specs.Delivery.{next_after, Stop, exchange_begun, entry_or_fresh, id_to_tell, register_first, deliver_by, and_then, deliver, deliver_left, deliver_if}
 use Rattle.sn_exchange.specs.Resending.{register_by, register_again, publish_by, publish_again, resend_in, resend_if}
 use Rattle.sn_exchange.specs.Following.{followed_by}
 
@@ -150,7 +150,7 @@ told-keeps name None (Some id) = tt
 told-keeps name (Some entry) free = tt
 
 module _ (g : ℕ) (c : List ℕ) (v : ClientView) (predefined : Entries) (peer : Peer) (s : Session) where
-  begun-fits : (put : Put) (phase : Phase) (frame : Frame) (d : Drafted) → Fits g c v d → Fits g c v (begun peer s put phase frame d)
+  begun-fits : (put : Put) (phase : Phase) (frame : Frame) (d : Drafted) → Fits g c v d → Fits g c v (exchange_begun peer s put phase frame d)
   begun-fits put phase frame d h =
       let x : Exchange = record { origin = put.origin; seq = put.seq; msg_id = s.next_id; phase = phase } in
       fits-moved (Sent peer.client peer.moment) _ tt (fits-sent peer.address frame _ (fits-changed (Outbound (Some x) (next_after s.next_id)) d tt h))
@@ -161,7 +161,7 @@ module _ (g : ℕ) (c : List ℕ) (v : ClientView) (predefined : Entries) (peer 
       begun-fits put Registering (frames.Register told.id s.next_id put.topic) (changed_if told.change d) (fits-changed_if told.change d k h)
 
   publish-fits : (put : Put) (form : Form) (b : Bool) (d : Drafted) → Fits g c v d
-      → Fits g c v (if◌then◌else◌ {A = Stop} b (false, acked (name_of put) (sent peer.address (publication false put 0 form) d)) (true, begun peer s put Published (publication false put s.next_id form) d)).1
+      → Fits g c v (if◌then◌else◌ {A = Stop} b (false, acked (name_of put) (sent peer.address (publication false put 0 form) d)) (true, exchange_begun peer s put Published (publication false put s.next_id form) d)).1
   publish-fits put form true d h = fits-acked (name_of put) _ (fits-sent peer.address (publication false put 0 form) d h)
   publish-fits put form false d h = begun-fits put Published (publication false put s.next_id form) d h
 

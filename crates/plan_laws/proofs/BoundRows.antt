@@ -14,7 +14,7 @@ use Rattle.sn_session.specs.declared.change.SessionOp.TheVariants.{Take, Presenc
 use Rattle.sn_tables.specs.Received.{is_received, id_has_no_room}
 use Rattle.sn_session.specs.Session.{empty_session}
 use Rattle.sn_tables.specs.Topics.{topic_named, free_id}
-use Rattle.sn_tables.specs.Subscriptions.{qos_of as subscribed_at, filter_has_no_room}
+use Rattle.sn_tables.specs.Subscriptions.{filter_qos, filter_has_no_room}
 use Rattle.sn_frame.specs.declared.flags.Qos.{Qos}
 use Rattle.sn_frame.specs.declared.flags.Qos.TheVariants as levels
 use Rattle.sn_frame.specs.declared.flags.TopicIdType.{TopicIdType}
@@ -51,23 +51,23 @@ use Rattle.sn_local.specs.Locals.{Local}
 use Rattle.sn_plan.specs.Others.{is_up, can_wake, other}
 use Rattle.sn_local.specs.Seen.{Seen, seen_of}
 use Rattle.sn_subscribe.specs.Registration.{entry_or_free, id_for, registered, register_name}
-use Rattle.sn_plan.specs.Rows.{heard_row, stray}
+use Rattle.sn_plan.specs.Rows.{row_with_timer, unexpected_row}
 use Rattle.sn_subscribe.specs.Subscription.{suback, refused, id_in_full, id_asked, subscribe_change, subscribed, subscribe_asked, subscribe_at, unsubscribe_asked, unsubscribe as unsubscribe_draft}
 use Rattle.sn_subscribe.specs.Handing.{waiting_for, handed_for}
 use Rattle.sn_subscribe.specs.TopicRows.{register_of, subscribe_of, unsubscribe_of}
 use Rattle.sn_local.specs.WillDialogs.{dialog_at}
-use Rattle.sn_flow.specs.Wills.{congestion, not_supported, dismissed, concluded, topic_given, topic_row, topic_in, topic_at, will_of, message_row, message_in, message_at, topic_update_of, message_update_of}
+use Rattle.sn_flow.specs.Wills.{congestion, not_supported, dismissed, concluded, topic_given, topic_row, will_topic_in, will_topic_from, will_of, message_row, message_in, will_message_from, topic_update_of, message_update_of}
 use Rattle.sn_flow.specs.WillUpdate.{topic_asked, topic_set, will_topic_update as topic_update, has_no_place, will_msg_update as message_update}
 use Rattle.sn_publish.specs.declared.meaning.Meant.{Meant}
 use Rattle.sn_publish.specs.declared.meaning.Meant.TheVariants as meanings
 use Rattle.sn_exchange.specs.declared.peer.Peer.{Peer}
-use Rattle.sn_deliver.specs.Acknowledging.{awaiting, put_awaiting, over, done, told, entry_published, forgotten, puback_of, pubrel_sent, released, awaiting_pubrec, pubrec_again, pubrec_of, pubcomp_of, registered as registered_by, regack_of, acknowledge}
+use Rattle.sn_deliver.specs.Acknowledging.{awaiting, put_awaiting, over, done, id_told, entry_published, forgotten, puback_of, pubrel_sent, released, awaiting_pubrec, pubrec_again, pubrec_of, pubcomp_of, id_known, regack_of, acknowledge}
 use Rattle.sn_exchange.specs.Exchanges.{message_of}
 use Rattle.sn_exchange.specs.Following.{peer_at}
 use Rattle.sn_publish.specs.Publishing.{publication_meant, posted, publish_at, publish_meant, spread_meant, release}
 use Rattle.sn_publish.specs.Recipients.{puts_for}
 use Rattle.sn_publish.specs.Retaining.{retained_of}
-use Rattle.sn_deliver.specs.Serving.{publish_of, publish_in_at, pubrel_of, ack_of}
+use Rattle.sn_deliver.specs.Serving.{publish_of, publish_in_at, pubrel_of, ack_row}
 use Rattle.sn_deliver.specs.Waking.{claimed, has_nothing, woken_by, woken_if, woken, wake_of, wake}
 use Rattle.sn_plan.proofs.Lists.{all-append}
 use Rattle.sn_deliver.specs.Steps.{row_for}
@@ -86,11 +86,11 @@ module _ (g : ℕ) (S : List Op) where
   for-moved None change d none h = all-append IsNoBind d.local (change ∷ []) h (none, tt)
   for-moved (Some c) change d none h = fits-moved change d none h
 
-  heard-fits : (bound : Option (List ℕ)) (now : ℕ) (row : Row) → FitsRow g S row → FitsRow g S (heard_row bound now row)
+  heard-fits : (bound : Option (List ℕ)) (now : ℕ) (row : Row) → FitsRow g S row → FitsRow g S (row_with_timer bound now row)
   heard-fits None now row h = h
   heard-fits (Some c) now row h = for-moved row.client (Heard c now) row.draft tt h
 
-  pub stray-fits : (a : Addr) (bound : Option (List ℕ)) (now : ℕ) → FitsRow g S (stray a bound now)
+  pub stray-fits : (a : Addr) (bound : Option (List ℕ)) (now : ℕ) → FitsRow g S (unexpected_row a bound now)
   stray-fits a None now = tt
   stray-fits a (Some c) now = fits-moved (Heard c now) nothing tt fits-nothing
 
@@ -146,11 +146,11 @@ module _ (g : ℕ) (S : List Op) where
   topic_row-fits dialog None now = concluded-fits dialog.request Deleted now
   topic_row-fits dialog (Some will) now = topic_given-fits dialog (topic_asked will)
 
-  topic_in-fits : (a : Addr) (bound : Option (List ℕ)) (dialog : WillDialog) (will : Option Will) (now : ℕ) (awaited : Awaited) → FitsRow g S (topic_in (seen_of S) a bound dialog will now awaited)
+  topic_in-fits : (a : Addr) (bound : Option (List ℕ)) (dialog : WillDialog) (will : Option Will) (now : ℕ) (awaited : Awaited) → FitsRow g S (will_topic_in (seen_of S) a bound dialog will now awaited)
   topic_in-fits a bound dialog will now Topic = heard-fits g S bound now (topic_row (seen_of S) dialog will now) (topic_row-fits dialog will now)
   topic_in-fits a bound dialog will now (Message topic) = stray-fits g S a bound now
 
-  pub will_topic-fits : (a : Addr) (bound : Option (List ℕ)) (dialog : Option WillDialog) (will : Option Will) (now : ℕ) → FitsRow g S (topic_at (seen_of S) a bound dialog will now)
+  pub will_topic-fits : (a : Addr) (bound : Option (List ℕ)) (dialog : Option WillDialog) (will : Option Will) (now : ℕ) → FitsRow g S (will_topic_from (seen_of S) a bound dialog will now)
   will_topic-fits a bound None will now = stray-fits g S a bound now
   will_topic-fits a bound (Some dialog) will now = topic_in-fits a bound dialog will now dialog.awaited
 
@@ -163,7 +163,7 @@ module _ (g : ℕ) (S : List Op) where
   message_in-fits a bound request message now (Message topic) =
       heard-fits g S bound now (message_row (seen_of S) request topic message now) (message_row-fits request topic message now)
 
-  pub will_msg-fits : (a : Addr) (bound : Option (List ℕ)) (dialog : Option WillDialog) (message : List ℕ) (now : ℕ) → FitsRow g S (message_at (seen_of S) a bound dialog message now)
+  pub will_msg-fits : (a : Addr) (bound : Option (List ℕ)) (dialog : Option WillDialog) (message : List ℕ) (now : ℕ) → FitsRow g S (will_message_from (seen_of S) a bound dialog message now)
   will_msg-fits a bound None message now = stray-fits g S a bound now
   will_msg-fits a bound (Some dialog) message now = message_in-fits a bound dialog.request message now dialog.awaited
 
@@ -230,7 +230,7 @@ module _ (g : ℕ) (c : List ℕ) (v : ClientView) where
     subscribed-fits filter qos (Some named) h =
         fits-hand_all (handed_for seen filter qos waiting) _
         (fits-sent a (suback bits named.id msg_id 0) _
-        (fits-changed_if (subscribe_change filter qos (subscribed_at filter s.subscriptions)) _ (subscribe_change-keeps filter qos (subscribed_at filter s.subscriptions))
+        (fits-changed_if (subscribe_change filter qos (filter_qos filter s.subscriptions)) _ (subscribe_change-keeps filter qos (filter_qos filter s.subscriptions))
         (fits-changed_if named.change nothing h fits-nothing)))
 
     asked_for-fits : (field : List ℕ) (asked : Asked) (qos : ℕ) → Fits g c v (subscribe_asked seen waiting a s bits msg_id field asked qos)
@@ -249,7 +249,7 @@ module _ (g : ℕ) (c : List ℕ) (v : ClientView) where
 
   unsubscribe_asked-keeps : (s : Session) (asked : Asked) → IfSome (unsubscribe_asked s asked) KeepsUp
   unsubscribe_asked-keeps s (Refused code) = tt
-  unsubscribe_asked-keeps s (Topics filter) = present-keeps (is_some (subscribed_at filter s.subscriptions)) filter
+  unsubscribe_asked-keeps s (Topics filter) = present-keeps (is_some (filter_qos filter s.subscriptions)) filter
 
   unsubscribe-fits : (p : Entries) (a : Addr) (s : Session) (bits msg_id : ℕ) (field : List ℕ) → Fits g c v (unsubscribe_draft p a s bits msg_id field)
   unsubscribe-fits p a s bits msg_id field =
@@ -335,7 +335,7 @@ module _ (g : ℕ) (c : List ℕ) (v : ClientView) (s : Session) (pending : List
   done-fits : (put : Put) → Fits g c v (done s put)
   done-fits put = over-fits _ (fits-acked (name_of put) nothing fits-nothing)
 
-  told-fits : (entry : TopicEntry) (known : Bool) → Fits g c v (over s (told entry known nothing))
+  told-fits : (entry : TopicEntry) (known : Bool) → Fits g c v (over s (id_told entry known nothing))
   told-fits entry known = over-fits _ (fits-changed (Register entry.id entry.name known) nothing tt fits-nothing)
 
   forgotten-fits : (put : Put) (entry : Option TopicEntry) → Fits g c v (forgotten s put entry)
@@ -367,7 +367,7 @@ module _ (g : ℕ) (c : List ℕ) (v : ClientView) (s : Session) (pending : List
   pubcomp-fits None = fits-nothing
   pubcomp-fits (Some x) = over-fits nothing fits-nothing
 
-  registered_by-fits : (entry : Option TopicEntry) → Fits g c v (registered_by s entry)
+  registered_by-fits : (entry : Option TopicEntry) → Fits g c v (id_known s entry)
   registered_by-fits None = fits-nothing
   registered_by-fits (Some entry) = told-fits entry true
 
@@ -406,7 +406,7 @@ module _ (g : ℕ) (S : List Op) where
   woken_if-fits a c now (Some s) e =
       woken_by-fits a c s (has_nothing s (view c S).pending) (bound_to a c now (claimed g (view c S) s)) s.presence (λ up. claimed-fits g c (view c S) a now s e up)
 
-  pub ack_of-fits : (p : Entries) (a : Addr) (bound : Option (List ℕ)) (frame : Frame) (now : ℕ) → FitsRow g S (ack_of p (seen_of S) a bound frame now)
+  pub ack_of-fits : (p : Entries) (a : Addr) (bound : Option (List ℕ)) (frame : Frame) (now : ℕ) → FitsRow g S (ack_row p (seen_of S) a bound frame now)
   ack_of-fits p a None frame now = tt
   ack_of-fits p a (Some c) frame now =
       fits-moved (Heard c now) _ tt (acknowledge-fits g c (view c S) (session_of (seen_of S) c) (view c S).pending p (peer_at a c now) frame)

@@ -28,10 +28,10 @@ use Rattle.sn_exchange.specs.declared.peer.Peer.{Peer}
 use Rattle.sn_exchange.specs.declared.delivery.ToldId.{ToldId}
 use Rattle.sn_exchange.specs.Forms.{form_of, form_again, publication}
 use Rattle.sn_exchange.specs.Exchanges.{is_left, left, put_left, message_of, open_exchange, is_served, is_awake}
-use Rattle.sn_exchange.specs.Delivery.{next_after, Stop, begun, entry_or_fresh, id_to_tell, register_first, deliver_by, none_left, and_then, deliver, deliver_left, deliver_if}
+use Rattle.sn_exchange.specs.Delivery.{next_after, Stop, exchange_begun, entry_or_fresh, id_to_tell, register_first, deliver_by, none_left, and_then, deliver, deliver_left, deliver_if}
 use Rattle.sn_exchange.specs.Resending.{register_by, register_again, publish_by, publish_again, resend_in, resend_if}
 use Rattle.sn_exchange.specs.Following.{followed_by}
-use Rattle.step_laws.specs.Laws.{AreApart}
+use Rattle.step_laws.specs.Laws.{AreNamedApart}
 use Rattle.plan_laws.proofs.Sessions.{Fine, IsChange, fold-fine}
 use Rattle.plan_laws.proofs.Kept.{IsWell}
 use Rattle.plan_laws.proofs.Sound.{Sound, IsNotDone, well-named, others-left, left-all, filter-all, filter-apart, choose-sound, sound-changed, sound-changed_if, sound-acked, sound-sent, sound-moved}
@@ -94,7 +94,7 @@ stopped : (rest : List Put) (d : Drafted) → Sound d → AfterOne rest (true, d
 stopped rest d s = record { sound = s; goes_on = λ e. absurd (true≢false e) }
 
 module _ (predefined : Entries) (peer : Peer) (s : Session) (fine : Fine s) where
-  begun-sound : (put : Put) (phase : Phase) (frame : Frame) (d : Drafted) → IsWell put → Sound d → Sound (begun peer s put phase frame d)
+  begun-sound : (put : Put) (phase : Phase) (frame : Frame) (d : Drafted) → IsWell put → Sound d → Sound (exchange_begun peer s put phase frame d)
   begun-sound put phase frame d well h =
       let named = well-named put well in
       let x : Exchange = record { origin = put.origin; seq = put.seq; msg_id = s.next_id; phase = phase } in
@@ -102,7 +102,7 @@ module _ (predefined : Entries) (peer : Peer) (s : Session) (fine : Fine s) wher
       and_from (nat_le 1 (next_after s.next_id)) (is_exchange (Some x)) (next-from_one s.next_id) (and_from (nat_le 1 put.origin) (nat_le 1 put.seq) named.1 named.0) in
       sound-moved (Sent peer.client peer.moment) _ tt (sound-sent peer.address frame _ (sound-changed (Outbound (Some x) (next_after s.next_id)) d can h))
 
-  module _ (put : Put) (rest : List Put) (d : Drafted) (well : IsWell put) (apart : AreApart (put ∷ rest)) (left_so_far : AllByRecursion (IsNotDone d.acks) (put ∷ rest)) (h : Sound d) where
+  module _ (put : Put) (rest : List Put) (d : Drafted) (well : IsWell put) (apart : AreNamedApart (put ∷ rest)) (left_so_far : AllByRecursion (IsNotDone d.acks) (put ∷ rest)) (h : Sound d) where
     register-after : (told : Option ToldId) → IfSome told (λ (t : ToldId). IfSome t.change IsChange) → AfterOne rest (register_first peer s put told d)
     register-after None k = record {
       sound = sound-acked (name_of put) d (well-named put well) left_so_far.0 h;
@@ -111,7 +111,7 @@ module _ (predefined : Entries) (peer : Peer) (s : Session) (fine : Fine s) wher
     register-after (Some told) k =
         stopped rest _ (begun-sound put Registering (frames.Register told.id s.next_id put.topic) (changed_if told.change d) well (sound-changed_if told.change d k h))
 
-    publish-after : (form : Form) (b : Bool) → AfterOne rest (if b then (false, acked (name_of put) (sent peer.address (publication false put 0 form) d)) else (true, begun peer s put Published (publication false put s.next_id form) d))
+    publish-after : (form : Form) (b : Bool) → AfterOne rest (if b then (false, acked (name_of put) (sent peer.address (publication false put 0 form) d)) else (true, exchange_begun peer s put Published (publication false put s.next_id form) d))
     publish-after form true = record {
       sound = sound-acked (name_of put) (sent peer.address (publication false put 0 form) d) (well-named put well) left_so_far.0 (sound-sent peer.address (publication false put 0 form) d h);
       goes_on = λ _. others-left d.acks put rest apart.0 left_so_far.1;
@@ -130,18 +130,18 @@ module _ (predefined : Entries) (peer : Peer) (s : Session) (fine : Fine s) wher
   then-more rest more (true, e) after keeps = after.sound
   then-more rest more (false, e) after keeps = keeps e (after.goes_on refl) after.sound
 
-  deliver-sound : (pending : List Put) (d : Drafted) → AllByRecursion IsWell pending → AreApart pending → AllByRecursion (IsNotDone d.acks) pending → Sound d → Sound (deliver predefined peer s pending d)
+  deliver-sound : (pending : List Put) (d : Drafted) → AllByRecursion IsWell pending → AreNamedApart pending → AllByRecursion (IsNotDone d.acks) pending → Sound d → Sound (deliver predefined peer s pending d)
   deliver-sound [] d well apart left_so_far h = none-sound d h
   deliver-sound (put ∷ rest) d well apart left_so_far h =
       then-more rest (deliver predefined peer s rest) (deliver_by peer s put (form_of predefined s put.topic) d)
       (one-after put rest d well.0 apart left_so_far h (form_of predefined s put.topic))
       (λ e remaining sound. deliver-sound rest e well.1 apart.1 remaining sound)
 
-  left-sound : (pending : List Put) (d : Drafted) → AllByRecursion IsWell pending → AreApart pending → Sound d → Sound (deliver_left predefined peer s pending d)
+  left-sound : (pending : List Put) (d : Drafted) → AllByRecursion IsWell pending → AreNamedApart pending → Sound d → Sound (deliver_left predefined peer s pending d)
   left-sound pending d well apart h =
       deliver-sound (left d.acks pending) d (filter-all IsWell (is_left d.acks) pending well) (filter-apart (is_left d.acks) pending apart) (left-all d.acks pending) h
 
-  if-sound : (pending : List Put) (d : Drafted) → AllByRecursion IsWell pending → AreApart pending → Sound d → Sound (deliver_if predefined peer s pending d)
+  if-sound : (pending : List Put) (d : Drafted) → AllByRecursion IsWell pending → AreNamedApart pending → Sound d → Sound (deliver_if predefined peer s pending d)
   if-sound pending d well apart h =
       choose-sound (is_served s.presence && is_none (open_exchange s d.acks pending)) _ d (left-sound pending d well apart h) h
 
@@ -178,7 +178,7 @@ module _ (predefined : Entries) (peer : Peer) (s : Session) (fine : Fine s) wher
   stop-sound more (true, e) h keeps = h
   stop-sound more (false, e) h keeps = keeps e h
 
-  resend-sound : (pending : List Put) (x : Option Exchange) (d : Drafted) → AllByRecursion IsWell pending → AreApart pending → Sound d → Sound (resend_if predefined peer s pending x d)
+  resend-sound : (pending : List Put) (x : Option Exchange) (d : Drafted) → AllByRecursion IsWell pending → AreNamedApart pending → Sound d → Sound (resend_if predefined peer s pending x d)
   resend-sound pending None d well apart h = if-sound pending d well apart h
   resend-sound pending (Some x) d well apart h =
       stop-sound (deliver_left predefined peer s pending) (resend_in predefined peer s x.msg_id x.phase (put_left d.acks pending (message_of x)) d)
@@ -186,7 +186,7 @@ module _ (predefined : Entries) (peer : Peer) (s : Session) (fine : Fine s) wher
       (λ e k. left-sound pending e well apart k)
 
 pub followed-sound : (predefined : Entries) (peer : Peer) (s : Session) (pending : List Put) (d : Drafted) (follow : Follow)
-    → Fine s → AllByRecursion IsWell pending → AreApart pending → Sound d → Sound (followed_by predefined peer s pending d follow)
+    → Fine s → AllByRecursion IsWell pending → AreNamedApart pending → Sound d → Sound (followed_by predefined peer s pending d follow)
 followed-sound predefined peer s pending d follows.Nothing fine well apart h = h
 followed-sound predefined peer s pending d follows.Delivery fine well apart h =
     if-sound predefined peer (session_after s d) (fold-fine s d.changes fine h.changes) pending d well apart h

@@ -19,7 +19,7 @@ use Rattle.rep_op.specs.Orders.{operation_cmp, name_of, put_cmp}
 use Rattle.rep_op.specs.Ranges.{is_change, is_session}
 use Rattle.rep_op.specs.Sets.{same_client, operation_of, operation_at, puts, is_acknowledged}
 use Rattle.rep_op.specs.WellMade.{is_stamp, is_counted, is_put, is_well_made}
-use Rattle.rep_model.specs.Views.{visible, gapless, then_more, history_at, history, after_change, session_of, unacknowledged, in_order, pending, view}
+use Rattle.rep_model.specs.Views.{visible, gapless, then_more, history_at, history, after_change, session_made, unacknowledged, in_order, pending, view}
 use Rattle.rep_model.proofs.Lookup.{find-all}
 use Rattle.rep_model.proofs.Pending.{pending-ascend}
 use Rattle.rep_model.proofs.Readers.{operation_exact, put_total}
@@ -28,7 +28,7 @@ use Rattle.sn_local.specs.Seen.{seen_of}
 use Rattle.sn_plan.proofs.Lists.{all-weaken}
 use Rattle.sn_local.proofs.Entries.{visible-there}
 use Rattle.sn_exchange.specs.Exchanges.{same_name}
-use Rattle.step_laws.specs.Laws.{AreApart}
+use Rattle.step_laws.specs.Laws.{AreNamedApart}
 use Rattle.plan_laws.proofs.Sessions.{Fine, IsChange, fine-from, applied-fine, empty-fine}
 
 -- ---- what stands under a name
@@ -170,11 +170,11 @@ less_apart a b less =
       | false ↦ λ _. refl
     ] refl
 
-sorted_apart : (ps : List Put) → IsStrictlySortedBy (λ (a b : Put). put_cmp (name_of a) (name_of b)) ps → AreApart ps
+sorted_apart : (ps : List Put) → IsStrictlySortedBy (λ (a b : Put). put_cmp (name_of a) (name_of b)) ps → AreNamedApart ps
 unfolding IsStrictlySortedBy
 sorted_apart [] sorted = tt
 sorted_apart (p ∷ ps) sorted =
     (all-weaken (λ (q : Put). put_cmp (name_of p) (name_of q) ≡ Less) (λ (q : Put). same_name (name_of p) (name_of q) ≡ false) (λ q h. less_apart (name_of p) (name_of q) h) ps sorted.0, sorted_apart ps sorted.1)
 
-pub pending-apart : (c : List ℕ) (S : List Op) → AreApart (pending c S)
+pub pending-apart : (c : List ℕ) (S : List Op) → AreNamedApart (pending c S)
 pending-apart c S = sorted_apart (pending c S) (pending-ascend c S)

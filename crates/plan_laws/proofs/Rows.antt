@@ -19,7 +19,7 @@ use Rattle.sn_session.specs.declared.change.SessionOp.TheVariants.{Take, Presenc
 use Rattle.sn_tables.specs.Received.{is_received, id_has_no_room}
 use Rattle.sn_session.specs.Session.{empty_session}
 use Rattle.sn_tables.specs.Topics.{topic_named, free_id}
-use Rattle.sn_tables.specs.Subscriptions.{qos_of as subscribed_at, subscribed_qos, filter_has_no_room}
+use Rattle.sn_tables.specs.Subscriptions.{filter_qos, subscribed_qos, filter_has_no_room}
 use Rattle.sn_frame.specs.declared.flags.Qos.{Qos}
 use Rattle.sn_frame.specs.declared.flags.Qos.TheVariants as levels
 use Rattle.sn_frame.specs.declared.flags.TopicIdType.{TopicIdType}
@@ -50,7 +50,7 @@ use Rattle.sn_local.specs.declared.local.Request.{Request}
 use Rattle.sn_local.specs.declared.local.WillDialog.{WillDialog}
 use Rattle.sn_subscribe.specs.declared.registration.NamedId.{NamedId}
 use Rattle.sn_plan.specs.declared.row.Row.{Row}
-use Rattle.sn_flow.specs.Accept.{will_after, unknowing, going_on, as_asked, accepted, cleared, accept, has_no_room}
+use Rattle.sn_flow.specs.Accept.{will_after, with_ids_unknown, going_on, as_asked, accepted, cleared, accept, has_no_room}
 use Rattle.sn_plan.specs.Asking.{qos_asked, topics_asked, id_in}
 use Rattle.sn_local.specs.Bindings.{client_at, same_address, is_stamp_of}
 use Rattle.sn_plan.specs.Bound.{bound_to, heard_of, session_of}
@@ -60,25 +60,25 @@ use Rattle.sn_local.specs.Locals.{Local}
 use Rattle.sn_plan.specs.Others.{is_up}
 use Rattle.sn_local.specs.Seen.{Seen, seen_of}
 use Rattle.sn_subscribe.specs.Registration.{entry_id, new_id, entry_or_free, id_for, registered, register_name, register as register_draft}
-use Rattle.sn_plan.specs.Rows.{row_of, row_of_none, heard_row, turned_away, stray}
+use Rattle.sn_plan.specs.Rows.{row_of, row_of_none, row_with_timer, turned_away, unexpected_row}
 use Rattle.sn_subscribe.specs.Subscription.{suback, refused, fixed_id, id_in_full, id_asked, subscribe_change, subscribed, subscribe_to, subscribe_asked, subscribe_at, subscribe as subscribe_draft, unsubscribe_change, unsubscribe_asked, unsubscribe as unsubscribe_draft}
 use Rattle.sn_subscribe.specs.Handing.{waiting_for, handed_for}
 use Rattle.sn_subscribe.specs.TopicRows.{register_of, register, subscribe_of, subscribe, unsubscribe_of, unsubscribe}
 use Rattle.sn_local.specs.Timers.{started}
 use Rattle.sn_local.specs.WillDialogs.{dialog_at}
-use Rattle.sn_flow.specs.Wills.{congestion, not_supported, dismissed, concluded, ask_message, topic_given, topic_row, topic_in, topic_at, will_topic, will_of, message_row, message_in, message_at, will_msg, topic_update_of, will_topic_update, message_update_of, will_msg_update}
+use Rattle.sn_flow.specs.Wills.{congestion, not_supported, dismissed, concluded, ask_message, topic_given, topic_row, will_topic_in, will_topic_from, will_topic, will_of, message_row, message_in, will_message_from, will_msg, topic_update_of, will_topic_update, message_update_of, will_msg_update}
 use Rattle.sn_flow.specs.WillUpdate.{topic_from, topic_asked, topic_accepted, topic_set, will_topic_update as topic_update, has_no_place, will_msg_update as message_update}
 use Rattle.sn_publish.specs.declared.meaning.Meant.{Meant}
 use Rattle.sn_publish.specs.declared.meaning.Meant.TheVariants as meanings
 use Rattle.sn_exchange.specs.declared.peer.Peer.{Peer}
-use Rattle.sn_deliver.specs.Acknowledging.{same_phase, if_awaits, awaiting, put_of, put_awaiting, over, done, told, entry_by_kind, entry_if_normal, entry_published, forgotten, puback_put, puback_of, pubrel_sent, released, awaiting_pubrec, is_at_two, pubrec_again, pubrec_of, pubcomp_of, registered as registered_by, regack_put, regack_of, acknowledge}
+use Rattle.sn_deliver.specs.Acknowledging.{same_phase, if_awaits, awaiting, put_of_exchange, put_awaiting, over, done, id_told, entry_by_kind, entry_if_normal, entry_published, forgotten, puback_put, puback_of, pubrel_sent, released, awaiting_pubrec, is_at_two, pubrec_again, pubrec_of, pubcomp_of, id_known, regack_put, regack_of, acknowledge}
 use Rattle.sn_exchange.specs.Exchanges.{same_name, put_named, put_left, message_of, is_open_in, if_open, open_exchange}
 use Rattle.sn_exchange.specs.Following.{peer_at}
 use Rattle.sn_exchange.specs.Forms.{form_again}
-use Rattle.step_laws.specs.Laws.{AreApart}
-use Rattle.sn_publish.specs.Publishing.{topic_meant, within_limit, publication_meant, spread, spread_once, spread_twice, publish_at, publish_meant, publish, spread_meant, publish_unconnected, release, pubrel}
-use Rattle.sn_publish.specs.Recipients.{admitted, qos_at, qos_in, qos_for, message_for, put_for, puts_among, puts_for, is_another, puts_of_will}
-use Rattle.sn_deliver.specs.Serving.{publish_of, publish_in_at, publish_in, pubrel_of, ack_of, ack_in}
+use Rattle.step_laws.specs.Laws.{AreNamedApart}
+use Rattle.sn_publish.specs.Publishing.{topic_meant, within_limit, publication_meant, publish_at_0, publish_at_1, publish_at_2, publish_at, publish_meant, publish, spread_meant, publish_unconnected, release, pubrel}
+use Rattle.sn_publish.specs.Recipients.{admitted, effective_qos, qos_in, qos_for, message_for, put_for, puts_among, puts_for, is_another, puts_of_will}
+use Rattle.sn_deliver.specs.Serving.{publish_of, publish_in_at, publish_in, pubrel_of, ack_row, ack_in}
 use Rattle.sn_deliver.specs.Waking.{claimed, has_nothing, from_sleep, from_wake, woken_by, woken_if, woken, wake_of, wake}
 use Rattle.plan_laws.specs.KeepsWell.{is_asked, AreAsked}
 use Rattle.plan_laws.proofs.Sessions.{Fine, IsChange, fine-to, all-found, unknown-fine, empty-fine}
@@ -93,11 +93,11 @@ IsSoundRow row = Sound row.draft
 pub sent-nothing : (a : Addr) (frame : Frame) → Sound (sent a frame nothing)
 sent-nothing a frame = sound-sent a frame nothing sound-nothing
 
-pub heard-sound : (bound : Option (List ℕ)) (now : ℕ) (row : Row) → IsSoundRow row → IsSoundRow (heard_row bound now row)
+pub heard-sound : (bound : Option (List ℕ)) (now : ℕ) (row : Row) → IsSoundRow row → IsSoundRow (row_with_timer bound now row)
 heard-sound None now row h = h
 heard-sound (Some c) now row h = sound-moved (Heard c now) row.draft tt h
 
-pub stray-sound : (a : Addr) (bound : Option (List ℕ)) (now : ℕ) → IsSoundRow (stray a bound now)
+pub stray-sound : (a : Addr) (bound : Option (List ℕ)) (now : ℕ) → IsSoundRow (unexpected_row a bound now)
 stray-sound a None now = sent-nothing a (frames.Disconnect None)
 stray-sound a (Some c) now = sound-moved (Heard c now) nothing tt sound-nothing
 
@@ -121,7 +121,7 @@ will-fine AsItIs will g h = h
 will-fine Deleted will g h = refl
 will-fine (Replaced other) will g h = g
 
-unknowing-fine : (s : Session) → Fine s → Fine (unknowing s)
+unknowing-fine : (s : Session) → Fine s → Fine (with_ids_unknown s)
 unknowing-fine s f = record { next = f.next; topics = unknown-fine s.topics f.topics; subscriptions = f.subscriptions; will = f.will; exchange = f.exchange }
 
 going_on-fine : (clean : Bool) (session : Option Session) → IfSome session Fine → Fine (going_on clean session)
@@ -139,14 +139,14 @@ cleared-named : (clean : Bool) (waiting : List Put) → AllByRecursion IsWell wa
 cleared-named true waiting well = all-named waiting well
 cleared-named false waiting well = tt
 
-acked_all-sound : (clean : Bool) (waiting : List Put) (d : Drafted) → d.acks ≡ [] → AllByRecursion IsWell waiting → AreApart waiting → Sound d → Sound (acked_all (cleared clean waiting) d)
+acked_all-sound : (clean : Bool) (waiting : List Put) (d : Drafted) → d.acks ≡ [] → AllByRecursion IsWell waiting → AreNamedApart waiting → Sound d → Sound (acked_all (cleared clean waiting) d)
 acked_all-sound true waiting d none well apart h = sound-acked_all (map name_of waiting) d none (all-named waiting well) (all-once waiting apart) h
 acked_all-sound false waiting d none well apart h = sound-acked_all [] d none tt tt h
 
 pub bound-sound : (a : Addr) (c : List ℕ) (now : ℕ) (d : Drafted) → Sound d → Sound (bound_to a c now d)
 bound-sound a c now d h = sound-moved (Time (started c now)) _ tt (sound-moved (Bind a c) d tt h)
 
-accept-sound : (request : Request) (given : GivenWill) (v : ClientView) (now : ℕ) → IsGiven given → IfSome v.session Fine → AllByRecursion IsWell v.pending → AreApart v.pending → Sound (accept request given v now)
+accept-sound : (request : Request) (given : GivenWill) (v : ClientView) (now : ℕ) → IsGiven given → IfSome v.session Fine → AllByRecursion IsWell v.pending → AreNamedApart v.pending → Sound (accept request given v now)
 accept-sound request given v now g f well apart =
     let begun : Drafted = changed (Take (accepted request given v.session)) nothing in
     sound-sent request.address (frames.ConnAck 0) _
@@ -252,11 +252,11 @@ module _ (S : List Op) (made : AreWellMade S) where
   topic_row-sound dialog None now = concluded-sound dialog.request Deleted now tt
   topic_row-sound dialog (Some will) now = topic_given-sound dialog (topic_asked will) (topic_asked-fine will)
 
-  topic_in-sound : (a : Addr) (bound : Option (List ℕ)) (dialog : WillDialog) (will : Option Will) (now : ℕ) (awaited : Awaited) → IsSoundRow (topic_in (seen_of S) a bound dialog will now awaited)
+  topic_in-sound : (a : Addr) (bound : Option (List ℕ)) (dialog : WillDialog) (will : Option Will) (now : ℕ) (awaited : Awaited) → IsSoundRow (will_topic_in (seen_of S) a bound dialog will now awaited)
   topic_in-sound a bound dialog will now Topic = heard-sound bound now (topic_row (seen_of S) dialog will now) (topic_row-sound dialog will now)
   topic_in-sound a bound dialog will now (Message topic) = stray-sound a bound now
 
-  topic_at-sound : (a : Addr) (bound : Option (List ℕ)) (dialog : Option WillDialog) (will : Option Will) (now : ℕ) → IsSoundRow (topic_at (seen_of S) a bound dialog will now)
+  topic_at-sound : (a : Addr) (bound : Option (List ℕ)) (dialog : Option WillDialog) (will : Option Will) (now : ℕ) → IsSoundRow (will_topic_from (seen_of S) a bound dialog will now)
   topic_at-sound a bound None will now = stray-sound a bound now
   topic_at-sound a bound (Some dialog) will now = topic_in-sound a bound dialog will now dialog.awaited
 
@@ -274,7 +274,7 @@ module _ (S : List Op) (made : AreWellMade S) where
   message_in-sound a bound request message now Topic q = stray-sound a bound now
   message_in-sound a bound request message now (Message topic) q = heard-sound bound now (message_row (seen_of S) request topic message now) (message_row-sound request topic message now q)
 
-  message_at-sound : (a : Addr) (bound : Option (List ℕ)) (dialog : Option WillDialog) (message : List ℕ) (now : ℕ) → IfSome dialog (λ (d : WillDialog). is_asked d.awaited ≡ true) → IsSoundRow (message_at (seen_of S) a bound dialog message now)
+  message_at-sound : (a : Addr) (bound : Option (List ℕ)) (dialog : Option WillDialog) (message : List ℕ) (now : ℕ) → IfSome dialog (λ (d : WillDialog). is_asked d.awaited ≡ true) → IsSoundRow (will_message_from (seen_of S) a bound dialog message now)
   message_at-sound a bound None message now q = stray-sound a bound now
   message_at-sound a bound (Some dialog) message now q = message_in-sound a bound dialog.request message now dialog.awaited q
 
@@ -327,7 +327,7 @@ module _ (S : List Op) (made : AreWellMade S) (waiting : ℕ) (a : Addr) (s : Se
   subscribed-sound filter qos (Some named) q h =
       sound-hand_all (handed_for (seen_of S) filter qos waiting) _ (handed-fine S made filter qos waiting)
       (sound-sent a (suback bits named.id msg_id 0) _
-      (sound-changed_if (subscribe_change filter qos (subscribed_at filter s.subscriptions)) _ (subscribe_change-fine filter qos (subscribed_at filter s.subscriptions) q)
+      (sound-changed_if (subscribe_change filter qos (filter_qos filter s.subscriptions)) _ (subscribe_change-fine filter qos (filter_qos filter s.subscriptions) q)
       (sound-changed_if named.change nothing h sound-nothing)))
 
   asked-sound : (field : List ℕ) (asked : Asked) (qos : ℕ) → Fine s → is_qos qos ≡ true → Sound (subscribe_asked (seen_of S) waiting a s bits msg_id field asked qos)
@@ -346,7 +346,7 @@ present-fine false filter = tt
 
 unsubscribe_asked-fine : (s : Session) (asked : Asked) → IfSome (unsubscribe_asked s asked) IsChange
 unsubscribe_asked-fine s (Refused code) = tt
-unsubscribe_asked-fine s (Topics filter) = present-fine (is_some (subscribed_at filter s.subscriptions)) filter
+unsubscribe_asked-fine s (Topics filter) = present-fine (is_some (filter_qos filter s.subscriptions)) filter
 
 module _ (S : List Op) (made : AreWellMade S) where
   pub register_of-sound : (a : Addr) (bound : Option (List ℕ)) (msg_id : ℕ) (name : List ℕ) (now : ℕ) → IsSoundRow (register_of (seen_of S) a bound msg_id name now)

@@ -18,7 +18,7 @@ use Rattle.sn_session.specs.declared.change.SessionOp.TheVariants.{Take, Presenc
 use Rattle.sn_tables.specs.Received.{is_received, id_has_no_room}
 use Rattle.sn_session.specs.Session.{empty_session}
 use Rattle.sn_tables.specs.Topics.{topic_named, free_id}
-use Rattle.sn_tables.specs.Subscriptions.{qos_of as subscribed_at, subscribed_qos, filter_has_no_room}
+use Rattle.sn_tables.specs.Subscriptions.{filter_qos, subscribed_qos, filter_has_no_room}
 use Rattle.sn_frame.specs.declared.flags.Qos.{Qos}
 use Rattle.sn_frame.specs.declared.flags.Qos.TheVariants as levels
 use Rattle.sn_frame.specs.declared.flags.TopicIdType.{TopicIdType}
@@ -50,7 +50,7 @@ use Rattle.sn_local.specs.declared.local.Request.{Request}
 use Rattle.sn_local.specs.declared.local.WillDialog.{WillDialog}
 use Rattle.sn_subscribe.specs.declared.registration.NamedId.{NamedId}
 use Rattle.sn_plan.specs.declared.row.Row.{Row}
-use Rattle.sn_flow.specs.Accept.{will_after, unknowing, going_on, as_asked, accepted, cleared, accept, has_no_room}
+use Rattle.sn_flow.specs.Accept.{will_after, with_ids_unknown, going_on, as_asked, accepted, cleared, accept, has_no_room}
 use Rattle.sn_plan.specs.Asking.{qos_asked, retain_asked, topics_asked, id_in}
 use Rattle.sn_local.specs.Bindings.{client_at, same_address, is_stamp_of}
 use Rattle.sn_plan.specs.Bound.{bound_to, heard_of, session_of}
@@ -60,26 +60,26 @@ use Rattle.sn_local.specs.Locals.{Local}
 use Rattle.sn_plan.specs.Others.{is_up}
 use Rattle.sn_local.specs.Seen.{Seen, seen_of}
 use Rattle.sn_subscribe.specs.Registration.{entry_id, new_id, entry_or_free, id_for, registered, register_name, register as register_draft}
-use Rattle.sn_plan.specs.Rows.{row_of, row_of_none, heard_row, turned_away, stray}
+use Rattle.sn_plan.specs.Rows.{row_of, row_of_none, row_with_timer, turned_away, unexpected_row}
 use Rattle.sn_subscribe.specs.Subscription.{suback, refused, fixed_id, id_in_full, id_asked, subscribe_change, subscribed, subscribe_to, subscribe_asked, subscribe_at, subscribe as subscribe_draft, unsubscribe_change, unsubscribe_asked, unsubscribe as unsubscribe_draft}
 use Rattle.sn_subscribe.specs.TopicRows.{register_of, register, subscribe_of, subscribe, unsubscribe_of, unsubscribe}
 use Rattle.sn_local.specs.Timers.{started}
 use Rattle.sn_local.specs.WillDialogs.{dialog_at}
-use Rattle.sn_flow.specs.Wills.{congestion, not_supported, dismissed, concluded, ask_message, topic_given, topic_row, topic_in, topic_at, will_topic, will_of, message_row, message_in, message_at, will_msg, topic_update_of, will_topic_update, message_update_of, will_msg_update}
+use Rattle.sn_flow.specs.Wills.{congestion, not_supported, dismissed, concluded, ask_message, topic_given, topic_row, will_topic_in, will_topic_from, will_topic, will_of, message_row, message_in, will_message_from, will_msg, topic_update_of, will_topic_update, message_update_of, will_msg_update}
 use Rattle.sn_flow.specs.WillUpdate.{topic_from, topic_asked, topic_accepted, topic_set, will_topic_update as topic_update, has_no_place, will_msg_update as message_update}
 use Rattle.sn_publish.specs.declared.meaning.Meant.{Meant}
 use Rattle.sn_publish.specs.declared.meaning.Meant.TheVariants as meanings
 use Rattle.sn_exchange.specs.declared.peer.Peer.{Peer}
 use Rattle.sn_exchange.specs.declared.form.Form.{Form}
-use Rattle.sn_deliver.specs.Acknowledging.{same_phase, if_awaits, awaiting, put_of, put_awaiting, over, done, told, entry_by_kind, entry_if_normal, entry_published, forgotten, puback_put, puback_of, pubrel_sent, released, awaiting_pubrec, is_at_two, pubrec_again, pubrec_of, pubcomp_of, registered as registered_by, regack_put, regack_of, acknowledge}
+use Rattle.sn_deliver.specs.Acknowledging.{same_phase, if_awaits, awaiting, put_of_exchange, put_awaiting, over, done, id_told, entry_by_kind, entry_if_normal, entry_published, forgotten, puback_put, puback_of, pubrel_sent, released, awaiting_pubrec, is_at_two, pubrec_again, pubrec_of, pubcomp_of, id_known, regack_put, regack_of, acknowledge}
 use Rattle.sn_exchange.specs.Exchanges.{same_name, put_named, put_left, message_of, is_open_in, if_open, open_exchange}
 use Rattle.sn_exchange.specs.Following.{peer_at}
 use Rattle.sn_exchange.specs.Forms.{form_again}
-use Rattle.step_laws.specs.Laws.{AreApart}
-use Rattle.sn_publish.specs.Publishing.{topic_meant, within_limit, publication_meant, posted, spread, spread_once, spread_twice, publish_at, publish_meant, publish, spread_meant, publish_unconnected, release, pubrel}
-use Rattle.sn_publish.specs.Recipients.{admitted, qos_at, qos_in, qos_for, message_for, put_for, puts_among, puts_for, is_another, puts_of_will}
+use Rattle.step_laws.specs.Laws.{AreNamedApart}
+use Rattle.sn_publish.specs.Publishing.{topic_meant, within_limit, publication_meant, posted, publish_at_0, publish_at_1, publish_at_2, publish_at, publish_meant, publish, spread_meant, publish_unconnected, release, pubrel}
+use Rattle.sn_publish.specs.Recipients.{admitted, effective_qos, qos_in, qos_for, message_for, put_for, puts_among, puts_for, is_another, puts_of_will}
 use Rattle.sn_publish.specs.Retaining.{has_place, retained_of}
-use Rattle.sn_deliver.specs.Serving.{publish_of, publish_in_at, publish_in, pubrel_of, ack_of, ack_in}
+use Rattle.sn_deliver.specs.Serving.{publish_of, publish_in_at, publish_in, pubrel_of, ack_row, ack_in}
 use Rattle.sn_deliver.specs.Waking.{claimed, has_nothing, from_sleep, from_wake, woken_by, woken_if, woken, wake_of, wake}
 use Rattle.plan_laws.specs.KeepsWell.{is_asked, AreAsked}
 use Rattle.plan_laws.proofs.Sessions.{Fine, IsChange, fine-to, all-found, unknown-fine, empty-fine}
@@ -94,7 +94,7 @@ admitted-fine : (b : Bool) (qos : ℕ) → nat_le qos 2 ≡ true → IfSome (if 
 admitted-fine true qos h = h
 admitted-fine false qos h = tt
 
-in-fine : (pending : List Put) (qos : ℕ) (s : Session) (asked : Option ℕ) → nat_le qos 2 ≡ true → IfSome (option_and_then (qos_at pending qos s) asked) (λ q. nat_le q 2 ≡ true)
+in-fine : (pending : List Put) (qos : ℕ) (s : Session) (asked : Option ℕ) → nat_le qos 2 ≡ true → IfSome (option_and_then (effective_qos pending qos s) asked) (λ q. nat_le q 2 ≡ true)
 in-fine pending qos s None h = tt
 in-fine pending qos s (Some asked) h = admitted-fine (nat_lt (length pending) 1024 && (is_up s.presence || nat_lt 0 (min qos asked))) (min qos asked) (least-two qos asked h)
 
@@ -205,7 +205,7 @@ module _ (s : Session) (fine : Fine s) (pending : List Put) (well : AllByRecursi
   awaiting-fine : (phase : Phase) (msg_id : ℕ) → IfSome (awaiting s pending phase msg_id) IsExchange
   awaiting-fine phase msg_id = awaits-fine phase msg_id (open_exchange s [] pending) (open-fine s [] pending s.outbound fine.exchange)
 
-  put_of-well : (x : Option Exchange) → IfSome (put_of pending x) IsWell
+  put_of-well : (x : Option Exchange) → IfSome (put_of_exchange pending x) IsWell
   put_of-well None = tt
   put_of-well (Some x) = found-well (λ put. same_name (name_of put) (message_of x)) pending well
 
@@ -215,7 +215,7 @@ module _ (s : Session) (fine : Fine s) (pending : List Put) (well : AllByRecursi
   done-sound : (put : Put) → IsWell put → Sound (done s put)
   done-sound put h = over-sound _ (sound-acked (name_of put) nothing (well-named put h) refl sound-nothing)
 
-  told-sound : (entry : TopicEntry) (known : Bool) → is_topic entry ≡ true → Sound (over s (told entry known nothing))
+  told-sound : (entry : TopicEntry) (known : Bool) → is_topic entry ≡ true → Sound (over s (id_told entry known nothing))
   told-sound entry known h = over-sound _ (sound-changed (Register entry.id entry.name known) nothing h sound-nothing)
 
   forgotten-sound : (put : Put) (entry : Option TopicEntry) → IsWell put → IfSome entry (λ e. is_topic e ≡ true) → Sound (forgotten s put entry)
@@ -267,7 +267,7 @@ module _ (s : Session) (fine : Fine s) (pending : List Put) (well : AllByRecursi
   pubcomp-sound None = sound-nothing
   pubcomp-sound (Some x) = over-sound nothing sound-nothing
 
-  registered-sound : (entry : Option TopicEntry) → IfSome entry (λ e. is_topic e ≡ true) → Sound (registered_by s entry)
+  registered-sound : (entry : Option TopicEntry) → IfSome entry (λ e. is_topic e ≡ true) → Sound (id_known s entry)
   registered-sound None h = sound-nothing
   registered-sound (Some entry) h = told-sound entry true h
 
@@ -303,7 +303,7 @@ woken_if-sound g a c v now None f = sent-nothing a (frames.Disconnect None)
 woken_if-sound g a c v now (Some s) f = woken_by-sound a c s (has_nothing s v.pending) (bound_to a c now (claimed g v s)) s.presence (bound-sound a c now (claimed g v s) (claimed-sound g v s f))
 
 module _ (S : List Op) (made : AreWellMade S) where
-  pub ack_of-sound : (p : Entries) (a : Addr) (bound : Option (List ℕ)) (frame : Frame) (now : ℕ) → IsSoundRow (ack_of p (seen_of S) a bound frame now)
+  pub ack_of-sound : (p : Entries) (a : Addr) (bound : Option (List ℕ)) (frame : Frame) (now : ℕ) → IsSoundRow (ack_row p (seen_of S) a bound frame now)
   ack_of-sound p a None frame now = sent-nothing a (frames.Disconnect None)
   ack_of-sound p a (Some c) frame now =
       sound-moved (Heard c now) _ tt (acknowledge-sound (session_of (seen_of S) c) (seen-fine c S made) (view c S).pending (pending-well c S made) p (peer_at a c now) frame)

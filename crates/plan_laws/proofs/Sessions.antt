@@ -13,7 +13,7 @@ use Rattle.sn_plan.proofs.Entered.{all-entered, all-filtered}
 use Rattle.sn_tables.specs.Topics.{unknown, topic_cmp}
 use Rattle.sn_tables.specs.Subscriptions.{subscription_cmp}
 use Rattle.sn_session.specs.Wills.{with_will_topic, with_will_message}
-use Rattle.sn_session.specs.Session.{empty_session, is_full, changed, applied}
+use Rattle.sn_session.specs.Session.{empty_session, is_full, session_changed, applied}
 use Rattle.sn_tables.specs.Levels.{is_qos}
 use Rattle.rep_op.specs.Ranges.{is_message, is_topic, is_subscription, is_will, is_will_topic, is_exchange, is_session, is_change}
 
@@ -81,7 +81,7 @@ message-fine : (message : List ℕ) (will : Option Will) → is_message message 
 message-fine message None h k = refl
 message-fine message (Some will) h k = and_from (is_qos will.qos) (is_message message) (and_parts (is_qos will.qos) (is_message will.message) k).0 h
 
-changed-fine : (s : Session) (change : SessionOp) → Fine s → IsChange change → Fine (changed s change)
+changed-fine : (s : Session) (change : SessionOp) → Fine s → IsChange change → Fine (session_changed s change)
 changed-fine s (Take taken) f h = fine-from taken h
 changed-fine s (SetPresence presence duration) f h = record { next = f.next; topics = f.topics; subscriptions = f.subscriptions; will = f.will; exchange = f.exchange }
 changed-fine s (Register id name known) f h =
@@ -103,7 +103,7 @@ choose-fine true s t f g = f
 choose-fine false s t f g = g
 
 pub applied-fine : (s : Session) (change : SessionOp) → Fine s → IsChange change → Fine (applied s change)
-applied-fine s change f h = choose-fine (is_full s change) s (changed s change) f (changed-fine s change f h)
+applied-fine s change f h = choose-fine (is_full s change) s (session_changed s change) f (changed-fine s change f h)
 
 -- and so after many
 pub fold-fine : (s : Session) (changes : List SessionOp) → Fine s → AllByRecursion IsChange changes → Fine (fold applied s changes)

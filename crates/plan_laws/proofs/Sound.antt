@@ -16,7 +16,7 @@ use Rattle.sn_local.specs.declared.local.LocalChange.TheVariants.{Ask}
 use Rattle.sn_plan.specs.Drafts.{Drafted, nothing, changed, changed_if, acked, acked_all, hand_all, retain_if, put_all, lasting, sent, moved}
 use Rattle.sn_plan.proofs.Lists.{all-append, all-both, all-given}
 use Rattle.sn_exchange.specs.Exchanges.{same_name, is_done, is_left, left}
-use Rattle.step_laws.specs.Laws.{AreApart}
+use Rattle.step_laws.specs.Laws.{AreNamedApart}
 use Rattle.plan_laws.specs.KeepsWell.{is_asked}
 use Rattle.plan_laws.proofs.Sessions.{IsChange}
 use Rattle.plan_laws.proofs.Kept.{IsWell}
@@ -142,7 +142,7 @@ names_apart : (p : Put) (ps : List Put) → AllByRecursion (λ (other : Put). sa
 names_apart p [] all = tt
 names_apart p (q ∷ qs) all = (all.0, names_apart p qs all.1)
 
-pub all-once : (ps : List Put) → AreApart ps → AreOnce (map name_of ps)
+pub all-once : (ps : List Put) → AreNamedApart ps → AreOnce (map name_of ps)
 all-once [] apart = tt
 all-once (p ∷ ps) apart = (names_apart p ps apart.0, all-once ps apart.1)
 
@@ -169,11 +169,11 @@ module _ (P : Put → Type 0) where
   filter-all test [] all = tt
   filter-all test (p ∷ ps) all = if_all (test p) p (filter test ps) all.0 (filter-all test ps all.1)
 
-if_apart : (b : Bool) (p : Put) (ps : List Put) → AllByRecursion (λ (other : Put). same_name (name_of p) (name_of other) ≡ false) ps → AreApart ps → AreApart (cond b (p ∷ ps) ps)
+if_apart : (b : Bool) (p : Put) (ps : List Put) → AllByRecursion (λ (other : Put). same_name (name_of p) (name_of other) ≡ false) ps → AreNamedApart ps → AreNamedApart (cond b (p ∷ ps) ps)
 if_apart true p ps h apart = (h, apart)
 if_apart false p ps h apart = apart
 
-pub filter-apart : (test : Put → Bool) (ps : List Put) → AreApart ps → AreApart (filter test ps)
+pub filter-apart : (test : Put → Bool) (ps : List Put) → AreNamedApart ps → AreNamedApart (filter test ps)
 filter-apart test [] apart = tt
 filter-apart test (p ∷ ps) apart =
     if_apart (test p) p (filter test ps) (filter-all (λ (other : Put). same_name (name_of p) (name_of other) ≡ false) test ps apart.0) (filter-apart test ps apart.1)

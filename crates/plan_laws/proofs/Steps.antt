@@ -14,7 +14,7 @@ use Rattle.sn_frame.specs.declared.frame.Frame.TheVariants as frames
 use Rattle.sn_frame.specs.FlagBits.{qos_of}
 use Rattle.rep_op.specs.declared.op.Op.{Op}
 use Rattle.rep_op.specs.declared.op.Put.{Put}
-use Rattle.rep_ops.specs.Making.{AreWellMade, AreApart}
+use Rattle.rep_ops.specs.Making.{AreWellMade, HaveOwnNames}
 use Rattle.sn_tables.specs.Levels.{is_qos}
 use Rattle.rep_op.specs.Ranges.{is_message, is_will}
 use Rattle.rep_op.specs.Sets.{Same}
@@ -34,11 +34,11 @@ use Rattle.sn_local.specs.Bindings.{client_at, same_address, address_of}
 use Rattle.sn_local.specs.Lifetimes.{expires_at}
 use Rattle.sn_plan.specs.Bound.{session_of}
 use Rattle.sn_plan.specs.Drafts.{Drafted, nothing, changed, put_all, lasting, sent, moved}
-use Rattle.sn_plan.specs.Flush.{AreFlush}
+use Rattle.sn_plan.specs.Flush.{HaveNoGap}
 use Rattle.sn_local.specs.Locals.{Local, no_local, after_all, owned}
-use Rattle.sn_plan.specs.Numbering.{planned, plan_with, rest_of, numbered as numbered_all, written, start_of, ack_of}
+use Rattle.sn_plan.specs.Numbering.{planned, plan_with, rest_of, numbered as numbered_all, changes_written, start_of, ack_of}
 use Rattle.sn_plan.specs.Others.{other}
-use Rattle.sn_plan.specs.Own.{IsOfDraft, AreFresh, AddsNone}
+use Rattle.sn_plan.specs.Own.{IsOfDraft, AreFresh, AddsNothingOwn}
 use Rattle.sn_local.specs.Seen.{Seen, seen_of}
 use Rattle.sn_plan.specs.Plans.{plan_of, plan_of_puts, plan_without}
 use Rattle.sn_plan.specs.Rows.{row_of, row_lasting, plan_for, plan_of_row}
@@ -56,7 +56,7 @@ use Rattle.sn_exchange.specs.Following.{peer_at, followed_for, followed, deliver
 use Rattle.sn_publish.specs.Recipients.{is_another}
 use Rattle.sn_publish.specs.Retaining.{has_place}
 use Rattle.sn_deliver.specs.Steps.{row_for, step}
-use Rattle.sn_tick.specs.Ticking.{dialog_ended, dialogs_ended, needs_timer, timer_begun, cleaned, may_advertise, advertised_to, advertised, will_puts, will_retained, lost, retried, plan_due, plan_if_due, tick}
+use Rattle.sn_tick.specs.Ticking.{dialog_ended, dialogs_ended, needs_timer, timer_begun, begin_tick, may_advertise, advertised_to, advertised, will_puts, will_retained, lost, retry_row, plan_due, plan_if_due, tick}
 use Rattle.step_laws.proofs.Drafting.{step-drafted, tick-drafted}
 use Rattle.step_laws.proofs.Expiring.{names_of, expired-acked}
 use Rattle.step_laws.proofs.Keeping.{fold_keeps}
@@ -72,10 +72,10 @@ use Rattle.plan_laws.proofs.Serving.{among-fine, kept-fine, publish_in-sound, pu
 -- ---- what a plan makes: operations that make a delta, and dialogs in range
 
 pub record Makes (plan : Plan) : Type 0 where
-  pub apart : AreApart plan.ops
+  pub apart : HaveOwnNames plan.ops
   pub moves : AllByRecursion IsMove plan.local
 
-module _ (g : ℕ) (S : List Op) (plan : Plan) (numbered : 1 ≤ g) (flush : AreFlush g S) (made : AreWellMade S) (drafted : IsOfDraft g (seen_of S) plan) where
+module _ (g : ℕ) (S : List Op) (plan : Plan) (numbered : 1 ≤ g) (flush : HaveNoGap g S) (made : AreWellMade S) (drafted : IsOfDraft g (seen_of S) plan) where
   fresh : AreFresh S plan.ops
   fresh = plan-fresh g drafted.client S drafted.draft plan drafted.is (flush drafted.client) drafted.apart
 
@@ -83,7 +83,7 @@ module _ (g : ℕ) (S : List Op) (plan : Plan) (numbered : 1 ≤ g) (flush : Are
   unfolding planned
   plan-local c d e =
       let seen : Seen = seen_of S in
-      let m = and_then-some (rest_of g c (λ e. seen.seq e g) seen.clock d) (written c g d.changes (start_of g (seen.of c) (seen.epoch c))) plan e in
+      let m = and_then-some (rest_of g c (λ e. seen.seq e g) seen.clock d) (changes_written c g d.changes (start_of g (seen.of c) (seen.epoch c))) plan e in
       let n = map-some (plan_with d) (numbered_all g c (λ e. seen.seq e g) seen.clock d (m.0.ops ++ map (ack_of c) d.acks)) plan m.2 in
       ap (λ (p : Plan). p.local) (sym n.2)
 
@@ -165,7 +165,7 @@ ended-sound now d dialog h = choose-sound (nat_le 60 (elapsed now dialog.begun))
 begun-sound : (g : ℕ) (seen : Seen) (timers : List Timer) (now : ℕ) (d : Drafted) (c : List ℕ) → Sound d → Sound (timer_begun g seen timers now d c)
 begun-sound g seen timers now d c h = choose-sound (needs_timer g timers c (seen.of c)) _ d (sound-moved (Heard c now) d tt h) h
 
-cleaned-sound : (g : ℕ) (seen : Seen) (local : Local) (now : ℕ) → Sound (cleaned g seen local now)
+cleaned-sound : (g : ℕ) (seen : Seen) (local : Local) (now : ℕ) → Sound (begin_tick g seen local now)
 cleaned-sound g seen local now =
     fold-sound (timer_begun g seen local.timers now) (begun-sound g seen local.timers now) seen.all (dialogs_ended now local.dialogs nothing)
     (fold-sound (dialog_ended now) (ended-sound now) local.dialogs nothing sound-nothing)
@@ -175,7 +175,7 @@ choose-acks : (b : Bool) (x d : Drafted) → x.acks ≡ d.acks → (if b then x 
 choose-acks true x d h = h
 choose-acks false x d h = refl
 
-cleaned-acks : (g : ℕ) (seen : Seen) (local : Local) (now : ℕ) → (cleaned g seen local now).acks ≡ []
+cleaned-acks : (g : ℕ) (seen : Seen) (local : Local) (now : ℕ) → (begin_tick g seen local now).acks ≡ []
 cleaned-acks g seen local now =
     fold_keeps (timer_begun g seen local.timers now) (λ d. d.acks) (λ d c. choose-acks (needs_timer g local.timers c (seen.of c)) (moved (Heard c now) d) d refl) seen.all (dialogs_ended now local.dialogs nothing)
     ∙ fold_keeps (dialog_ended now) (λ d. d.acks) (λ d dialog. choose-acks (nat_le 60 (elapsed now dialog.begun)) (moved (EndDialog dialog.request.address) d) d refl) local.dialogs nothing
@@ -246,7 +246,7 @@ module _ (g : ℕ) (S : List Op) (local : Local) (k : KeepsWell g S local) (pred
 
   pub tick-makes : (lifetime advertise : ℕ) (field : List Addr) (now : ℕ) → tick g lifetime advertise field predefined (seen_of S) local now ≡ Some plan → Makes plan
   tick-makes lifetime advertise field now e =
-      let first : Drafted = cleaned g (seen_of S) local now in
+      let first : Drafted = begin_tick g (seen_of S) local now in
       let d : Drafted = lasting (expires_at lifetime now) first in
       let h : Sound d = sound-lasting (expires_at lifetime now) first (cleaned-sound g (seen_of S) local now) in
       let drafted = tick-drafted g lifetime advertise field predefined S local now plan e in
@@ -296,7 +296,7 @@ made-keeps g S local plan delta k drafted makes proper same = record {
 }
 
 -- and after a delta of another
-pub taken-keeps : (g : ℕ) (S D : List Op) (local : Local) (seen : Seen) → KeepsWell g S local → AreWellMade D → ((c : List ℕ) → AddsNone g c S D) → KeepsWell g (S ++ D) (owned g seen local)
+pub taken-keeps : (g : ℕ) (S D : List Op) (local : Local) (seen : Seen) → KeepsWell g S local → AreWellMade D → ((c : List ℕ) → AddsNothingOwn g c S D) → KeepsWell g (S ++ D) (owned g seen local)
 taken-keeps g S D local seen k proper news = record {
   numbered = k.numbered;
   flush = λ c. flush-taken g c S D (news c) (k.flush c);

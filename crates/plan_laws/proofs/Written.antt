@@ -16,14 +16,14 @@ use Rattle.rep_op.specs.declared.op.Put.{Put}
 use Rattle.rep_op.specs.declared.op.Op.{Op}
 use Rattle.rep_op.specs.declared.op.Op.TheVariants.{Session as OfSession, Put as OfPut, Ack, Retain as OfRetain}
 use Rattle.rep_op.specs.Orders.{ShareName, HasTwice, put_cmp, clock_of}
-use Rattle.rep_ops.specs.Making.{AreWellMade, AreApart}
+use Rattle.rep_ops.specs.Making.{AreWellMade, HaveOwnNames}
 use Rattle.rep_op.specs.Ranges.{is_change, is_session}
 use Rattle.rep_op.specs.Sets.{operation_at, put_at, retain_at}
 use Rattle.rep_op.specs.WellMade.{is_stamp, is_counted, is_put, is_well_made}
 use Rattle.rep_ops.proofs.Rising.{all_at}
 use Rattle.rep_model.specs.declared.view.ClientView.{ClientView}
 use Rattle.rep_model.specs.Fresh.{one_more, next_epoch, next_seq, next_clock, greatest_epoch, largest, seq_of, clock_in}
-use Rattle.rep_model.specs.Views.{visible, history, session_of, view}
+use Rattle.rep_model.specs.Views.{visible, history, session_made, view}
 use Rattle.rep_model.proofs.Lookup.{or_else}
 use Rattle.rep_model.proofs.Readers.{put_total, operation_at_both, put_at_both, retain_at_both}
 use Rattle.sn_plan.proofs.Standing.{retain-alone}
@@ -32,8 +32,8 @@ use Rattle.sn_plan.specs.declared.draft.Posted.{Posted}
 use Rattle.sn_plan.specs.declared.plan.Plan.{Plan}
 use Rattle.sn_plan.specs.Drafts.{Drafted}
 use Rattle.sn_plan.specs.Flush.{IsFlush, stamp_of}
-use Rattle.sn_plan.specs.Numbering.{Written, another, taken_at, taken, counted, write, written, own_counter, epoch_of, start_of, put_at_seq, with_puts, handed_to, handed_at_seq, with_handed, retain_at_clock, with_retain, ack_of}
-use Rattle.sn_plan.specs.Own.{IsFresh, AreFresh}
+use Rattle.sn_plan.specs.Numbering.{Written, another, taken_at, taken, counted, write, changes_written, own_counter, epoch_of, start_of, put_at_seq, with_puts, handed_to, handed_at_seq, with_handed, retain_at_clock, with_retain, ack_of}
+use Rattle.sn_plan.specs.Own.{IsFreshName, AreFresh}
 use Rattle.sn_local.specs.Seen.{seen_of}
 use Rattle.sn_plan.specs.Plans.{plan_of}
 use Rattle.sn_local.proofs.Entries.{same_client-itself, at_own}
@@ -122,10 +122,10 @@ module _ (c : List ℕ) (g : ℕ) (numbered : nat_le 1 g ≡ true) where
   write-gives (Released id) w x h r e = counted-gives (Released id) w x refl h r e
   write-gives (SetOutbound exchange next_id) w x h r e = counted-gives (SetOutbound exchange next_id) w x refl h r e
 
-  written-ready : (changes : List SessionOp) (w x : Written) → AllByRecursion IsChange changes → Ready w → written c g changes w ≡ Some x → Ready x
+  written-ready : (changes : List SessionOp) (w x : Written) → AllByRecursion IsChange changes → Ready w → changes_written c g changes w ≡ Some x → Ready x
   written-ready [] w x all r e = subst Ready (same_Some w x e) r
   written-ready (change ∷ rest) w x all r e =
-      let m = and_then-some (written c g rest) (write c g change w) x e in
+      let m = and_then-some (changes_written c g rest) (write c g change w) x e in
       written-ready rest m.0 x all.1 (write-gives change w m.0 all.0 r m.1) m.2
 
   -- ---- acknowledgements and messages
@@ -207,15 +207,15 @@ none_of : {X : Type 0} (a b : Option X) → or_else a b ≡ None → (a ≡ None
 none_of None b e = (refl, e)
 none_of (Some x) b e = absurd (cc)
 
-fresh-before : (S more : List Op) (op : Op) → IsFresh (S ++ more) op → IsFresh S op
+fresh-before : (S more : List Op) (op : Op) → IsFreshName (S ++ more) op → IsFreshName S op
 fresh-before S more (OfSession c s i o) h = (none_of (operation_at c S (s, i)) (operation_at c more (s, i)) (sym (operation_at_both c S more (s, i)) ∙ h)).0
 fresh-before S more (OfPut c p) h = (none_of (put_at c S (p.seq, p.origin)) (put_at c more (p.seq, p.origin)) (sym (put_at_both c S more (p.seq, p.origin)) ∙ h)).0
 fresh-before S more (Ack c origin first last) h = tt
 fresh-before S more (OfRetain t k) h = (none_of (retain_at t S (clock_of k)) (retain_at t more (clock_of k)) (sym (retain_at_both t S more (clock_of k)) ∙ h)).0
 
-fresh-all : (S ops : List Op) → AreFresh S ops → AllByRecursion (IsFresh S) ops
+fresh-all : (S ops : List Op) → AreFresh S ops → AllByRecursion (IsFreshName S) ops
 fresh-all S [] h = tt
-fresh-all S (op ∷ rest) h = (h.0, all-weaken (IsFresh (S ++ op ∷ [])) (IsFresh S) (fresh-before S (op ∷ [])) rest (fresh-all (S ++ op ∷ []) rest h.1))
+fresh-all S (op ∷ rest) h = (h.0, all-weaken (IsFreshName (S ++ op ∷ [])) (IsFreshName S) (fresh-before S (op ∷ [])) rest (fresh-all (S ++ op ∷ []) rest h.1))
 
 put-alone : (c : List ℕ) (p : Put) → put_at c (OfPut c p ∷ []) (p.seq, p.origin) ≡ Some p
 put-alone c p =
@@ -225,7 +225,7 @@ put-alone c p =
 some_none : {X : Type 0} (o : Option X) (x : X) → o ≡ Some x → o ≡ None → ⊥
 some_none o x e f = none-some x (sym f ∙ e)
 
-fresh-apart : (S : List Op) (a b : Op) → IsFresh (S ++ a ∷ []) b → IsNoAck a → Apart a b
+fresh-apart : (S : List Op) (a b : Op) → IsFreshName (S ++ a ∷ []) b → IsNoAck a → Apart a b
 fresh-apart S (OfSession c s i o) (OfSession d t j p) h n e =
     let free : operation_at d (OfSession c s i o ∷ []) (t, j) ≡ None = (none_of (operation_at d S (t, j)) (operation_at d (OfSession c s i o ∷ []) (t, j)) (sym (operation_at_both d S (OfSession c s i o ∷ []) (t, j)) ∙ h)).1 in
     let moved : operation_at c (OfSession c s i o ∷ []) (s, i) ≡ operation_at d (OfSession c s i o ∷ []) (t, j) = λ k. operation_at (e.0 k) (OfSession c s i o ∷ []) (e.1 k, e.2 k) in
@@ -254,7 +254,7 @@ abbrev ApartIfFresh : Op → Op → Type 0
 ApartIfFresh (Ack c origin first last) b = Unit {0}
 ApartIfFresh a b = Apart a b
 
-if-fresh : (S : List Op) (a b : Op) → IsFresh (S ++ a ∷ []) b → ApartIfFresh a b
+if-fresh : (S : List Op) (a b : Op) → IsFreshName (S ++ a ∷ []) b → ApartIfFresh a b
 if-fresh S (OfSession c s i o) b h = fresh-apart S (OfSession c s i o) b h tt
 if-fresh S (OfPut c p) b h = fresh-apart S (OfPut c p) b h tt
 if-fresh S (Ack c r f l) b h = tt
@@ -263,7 +263,7 @@ if-fresh S (OfRetain t k) b h = fresh-apart S (OfRetain t k) b h tt
 fresh-pairs : (S ops : List Op) → AreFresh S ops → Pairwise ApartIfFresh ops
 fresh-pairs S [] h = tt
 fresh-pairs S (op ∷ rest) h =
-    (all-weaken (IsFresh (S ++ op ∷ [])) (ApartIfFresh op) (if-fresh S op) rest (fresh-all (S ++ op ∷ []) rest h.1), fresh-pairs (S ++ op ∷ []) rest h.1)
+    (all-weaken (IsFreshName (S ++ op ∷ [])) (ApartIfFresh op) (if-fresh S op) rest (fresh-all (S ++ op ∷ []) rest h.1), fresh-pairs (S ++ op ∷ []) rest h.1)
 
 -- of acknowledgements alone
 abbrev ApartIfAck : Op → Op → Type 0
@@ -332,7 +332,7 @@ module _ (g : ℕ) (c : List ℕ) (S : List Op) (d : Drafted) (plan : Plan) (pla
   abbrev acks : List Op
   acks = map (ack_of c) d.acks
 
-  begun : (h : List SessionOp) → is_some (session_of h) ≡ true → 1 ≤ length h
+  begun : (h : List SessionOp) → is_some (session_made h) ≡ true → 1 ≤ length h
   begun [] e = absurd (true≢false (sym e))
   begun (x ∷ h) e = omega arith
 
@@ -379,7 +379,7 @@ module _ (g : ℕ) (c : List ℕ) (S : List Op) (d : Drafted) (plan : Plan) (pla
       (no-ack-pairs b.0 more)
       (all-given (λ x. AllByRecursion (ApartIfAck x) b.0) (λ x. all-weaken IsNoAck (ApartIfAck x) (no-ack-second x) b.0 more) (cut.w.ops ++ acks)))
 
-  pub plan-apart : AreFresh S plan.ops → AreApart plan.ops
+  pub plan-apart : AreFresh S plan.ops → HaveOwnNames plan.ops
   plan-apart fresh = record {
     well_made = plan-made;
     once = λ t. both-apart t.2 t.3

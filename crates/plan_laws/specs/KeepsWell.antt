@@ -8,7 +8,7 @@ use Rattle.sn_local.specs.declared.local.Awaited.{Awaited}
 use Rattle.sn_local.specs.declared.local.Awaited.TheVariants.{Topic, Message}
 use Rattle.sn_local.specs.declared.local.WillDialog.{WillDialog}
 use Rattle.sn_local.specs.Locals.{Local}
-use Rattle.sn_plan.specs.Flush.{AreFlush}
+use Rattle.sn_plan.specs.Flush.{HaveNoGap}
 
 -- whether the topic of a will that was given, if it was, has a quality of service of 0 to 2
 abbrev pub is_asked : Awaited → Bool
@@ -24,6 +24,6 @@ AreAsked dialogs =
 -- well made, and so are the topics of wills that it was given.
 pub record KeepsWell (g : ℕ) (S : List Op) (local : Local) : Type 0 where
   pub numbered : 1 ≤ g
-  pub flush : AreFlush g S
+  pub flush : HaveNoGap g S
   pub made : AreWellMade S
   pub asked : AreAsked local.dialogs

@@ -7,15 +7,15 @@ ghost use Rattle.sn_session.specs.declared.session.Session.{Session};
 ghost use Rattle.sn_frame.specs.declared.frame.Frame.{Frame};
 ghost use Rattle.rep_op.specs.declared.op.Op.{Op};
 ghost use Rattle.rep_op.specs.Sets.{Same};
-ghost use Rattle.rep_ops.specs.Making.{AreApart, AreWellMade, IsDeltaOf};
+ghost use Rattle.rep_ops.specs.Making.{HaveOwnNames, AreWellMade, IsDeltaOf};
 ghost use Rattle.rep_model.specs.Views.{view};
 ghost use Rattle.sn_local.specs.declared.config.Addr.{Addr};
 ghost use Rattle.sn_plan.specs.declared.plan.Plan.{Plan};
 ghost use Rattle.sn_local.specs.Bindings.{client_at};
-ghost use Rattle.sn_plan.specs.Flush.{AreFlush};
+ghost use Rattle.sn_plan.specs.Flush.{HaveNoGap};
 ghost use Rattle.sn_local.specs.Locals.{Local, no_local, after_all, owned};
 ghost use Rattle.sn_plan.specs.Others.{is_up};
-ghost use Rattle.sn_plan.specs.Own.{AddsNone};
+ghost use Rattle.sn_plan.specs.Own.{AddsNothingOwn};
 ghost use Rattle.sn_local.specs.Seen.{Seen, seen_of};
 ghost use Rattle.sn_deliver.specs.Steps.{step};
 ghost use Rattle.sn_tick.specs.Ticking.{tick};
@@ -27,11 +27,12 @@ ghost use Rattle.plan_laws.specs.BoundUp.{IsUp};
 pub fn every_plan()
     ensures steps { (g lifetime : ℕ) (predefined : Entries) (S : List Op) (local : Local)
         (a : Addr) (frame : Frame) (now : ℕ) (plan : Plan) → KeepsWell g S local
-        → step g lifetime predefined (seen_of S) local a frame now ≡ Some plan → AreApart plan.ops }
+        → step g lifetime predefined (seen_of S) local a frame now ≡ Some plan
+        → HaveOwnNames plan.ops }
     ensures ticks { (g lifetime advertise : ℕ) (field : List Addr) (predefined : Entries)
         (S : List Op) (local : Local) (now : ℕ) (plan : Plan) → KeepsWell g S local
         → tick g lifetime advertise field predefined (seen_of S) local now ≡ Some plan
-        → AreApart plan.ops }
+        → HaveOwnNames plan.ops }
 {}
 
 /// A gateway keeps well, from its start on: when it takes what a step or a tick of its own made,
@@ -48,7 +49,7 @@ pub fn keeps_well()
         → tick g lifetime advertise field predefined (seen_of S) local now ≡ Some plan
         → IsDeltaOf plan.ops delta → KeepsWell g (S ++ delta) (after_all local plan.local) }
     ensures taken { (g : ℕ) (S delta : List Op) (local : Local) (seen : Seen)
-        → KeepsWell g S local → AreWellMade delta → ((c : List ℕ) → AddsNone g c S delta)
+        → KeepsWell g S local → AreWellMade delta → ((c : List ℕ) → AddsNothingOwn g c S delta)
         → KeepsWell g (S ++ delta) (owned g seen local) }
 {}
 
@@ -59,16 +60,16 @@ pub fn keeps_well()
 pub fn bound_up()
     ensures start { (g : ℕ) → IsUp g [] no_local }
     ensures steps { (g lifetime : ℕ) (predefined : Entries) (S : List Op) (local : Local) (a : Addr)
-        (frame : Frame) (now : ℕ) (plan : Plan) (delta : List Op) → AreFlush g S → IsUp g S local
+        (frame : Frame) (now : ℕ) (plan : Plan) (delta : List Op) → HaveNoGap g S → IsUp g S local
         → step g lifetime predefined (seen_of S) local a frame now ≡ Some plan → Same delta plan.ops
         → IsUp g (S ++ delta) (after_all local plan.local) }
     ensures ticks { (g lifetime advertise : ℕ) (field : List Addr) (predefined : Entries)
-        (S : List Op) (local : Local) (now : ℕ) (plan : Plan) (delta : List Op) → AreFlush g S
+        (S : List Op) (local : Local) (now : ℕ) (plan : Plan) (delta : List Op) → HaveNoGap g S
         → IsUp g S local
         → tick g lifetime advertise field predefined (seen_of S) local now ≡ Some plan
         → Same delta plan.ops → IsUp g (S ++ delta) (after_all local plan.local) }
     ensures taken { (g : ℕ) (S delta : List Op) (local : Local) → IsUp g S local
-        → ((c : List ℕ) → AddsNone g c S delta)
+        → ((c : List ℕ) → AddsNothingOwn g c S delta)
         → IsUp g (S ++ delta) (owned g (seen_of (S ++ delta)) local) }
     ensures equal { (g : ℕ) (A B : List Op) (local : Local) → Same A B → IsUp g A local
         → IsUp g B local }

@@ -20,11 +20,11 @@ use Rattle.sn_local.specs.declared.config.Send.{Send}
 use Rattle.sn_local.specs.Seen.{seen_of}
 use Rattle.sn_plan.specs.declared.draft.NewPut.{NewPut}
 use Rattle.sn_plan.specs.declared.plan.Plan.{Plan}
-use Rattle.sn_plan.specs.Flush.{AreFlush}
-use Rattle.sn_plan.specs.Own.{messages}
+use Rattle.sn_plan.specs.Flush.{HaveNoGap}
+use Rattle.sn_plan.specs.Own.{new_messages}
 use Rattle.sn_publish.specs.Recipients.{message_for}
 use Rattle.sn_deliver.specs.Steps.{step}
-use Rattle.put_laws.specs.Puts.{HasReceived, IsAnswered, IsPublished, puts_by_tick, puts_of}
+use Rattle.put_laws.specs.Puts.{HasReceived, IsReplyTo, IsPublished, puts_by_tick, puts_of}
 use Rattle.put_laws.proofs.Putting.{step-messages, tick-messages}
 use Rattle.put_laws.proofs.Recipients.{for-recipients}
 use Rattle.put_laws.proofs.Saying.{puback-put, pubrec-put}
@@ -72,14 +72,14 @@ has-stepped old new number i gateway occasion now answer out at says h =
     }
 
 -- a gateway that an event reaches is flush
-flush-at : (configs : List Config) (event : Event) (out : Out) (old new : Field) (number i : ℕ) (gateway : Gateway) → HasAnswered configs event out old new i gateway → IsAt old number i gateway → AreFlush gateway.config.gateway gateway.taken
+flush-at : (configs : List Config) (event : Event) (out : Out) (old new : Field) (number i : ℕ) (gateway : Gateway) → HasAnswered configs event out old new i gateway → IsAt old number i gateway → HaveNoGap gateway.config.gateway gateway.taken
 flush-at configs event out old new number i gateway h at =
     let own : gateway.config.gateway ≡ number = first-number number i old.gateways gateway (place_of-first number i old.gateways at.0) at.1 in
-    subst (λ (k : ℕ). AreFlush k gateway.taken) (sym own) ((field-steady configs h.events h.answers old h.run).flush number i gateway at)
+    subst (λ (k : ℕ). HaveNoGap k gateway.taken) (sym own) ((field-steady configs h.events h.answers old h.run).flush number i gateway at)
 
 -- ---- what the step puts
 
-module _ (new : Field) (i : ℕ) (gateway : Gateway) (occasion : Occasion) (now : ℕ) (out : Out) (flush : AreFlush gateway.config.gateway gateway.taken) (s : HasStepped new i gateway occasion now out) where
+module _ (new : Field) (i : ℕ) (gateway : Gateway) (occasion : Occasion) (now : ℕ) (out : Out) (flush : HaveNoGap gateway.config.gateway gateway.taken) (s : HasStepped new i gateway occasion now out) where
   abbrev plan : Plan
   plan = s.step.0
 
@@ -89,7 +89,7 @@ module _ (new : Field) (i : ℕ) (gateway : Gateway) (occasion : Occasion) (now 
 
   -- of each message of the plan, what is made of it holds of what the gateway made
   serve : (Holds : List Op → List ℕ → Put → Type 0) → ((delta : List Op) (c : List ℕ) (m : Put) → out.made ≡ Some delta → IsPut gateway s.next delta c m → Holds delta c m)
-      → (p : NewPut) → Contains (messages plan.ops) p → IsServed gateway out p.client p.topic p.qos p.body Holds
+      → (p : NewPut) → Contains (new_messages plan.ops) p → IsServed gateway out p.client p.topic p.qos p.body Holds
   serve Holds holds p there =
       let m = message-there plan.ops p there in
       let t = some-taken gateway plan plan.ops out.made s.next s.made (OfPut p.client m.message) s.step.2.1 m.among in
@@ -109,7 +109,7 @@ module _ (new : Field) (i : ℕ) (gateway : Gateway) (occasion : Occasion) (now 
       put-of-delta gateway s.next plan (of-gateway gateway occasion now plan s.step.1) flush (Some delta) delta t c m there
 
   accept : (Holds : List Op → List ℕ → Put → Type 0) → ((delta : List Op) (c : List ℕ) (m : Put) → out.made ≡ Some delta → IsPut gateway s.next delta c m → Holds delta c m)
-      → (a : Addr) (bits topic qos : ℕ) (body : List ℕ) → IsPublished gateway.config.predefined (seen_of gateway.taken) gateway.local a bits topic qos body (messages plan.ops)
+      → (a : Addr) (bits topic qos : ℕ) (body : List ℕ) → IsPublished gateway.config.predefined (seen_of gateway.taken) gateway.local a bits topic qos body (new_messages plan.ops)
       → IsAccepted gateway a bits topic qos body out Holds
   accept Holds holds a bits topic qos body (p, name, bound, meant, puts) = (
     p,
@@ -133,7 +133,7 @@ module _ (configs : List Config) (old new : Field) (number i : ℕ) (gateway : G
   framed : HasStepped new i gateway (Datagram a octets) now out
   framed = has-stepped old new number i gateway (Datagram a octets) now (said h.answer) out h.at h.says h.after
 
-  frame-flush : AreFlush gateway.config.gateway gateway.taken
+  frame-flush : HaveNoGap gateway.config.gateway gateway.taken
   frame-flush = flush-at configs (Frame number a octets now) out old new number i gateway h h.at
 
   abbrev frame-plan : Plan
@@ -145,21 +145,21 @@ module _ (configs : List Config) (old new : Field) (number i : ℕ) (gateway : G
       subst (λ (f : OfFrame). step gateway.config.gateway gateway.config.lifetime gateway.config.predefined (seen_of gateway.taken) gateway.local a f now ≡ Some frame-plan)
       (one_frame octets is.0 frame is.1 value is.2 spells) is.3
 
-  frame-sent : (answer : OfFrame) → IsAnswered a answer out.sends → IsAnswered a answer frame-plan.sends
-  frame-sent answer there = subst (λ (sends : List Send). IsAnswered a answer sends) (sends-alike new i gateway (Datagram a octets) now out frame-flush framed) there
+  frame-sent : (answer : OfFrame) → IsReplyTo a answer out.sends → IsReplyTo a answer frame-plan.sends
+  frame-sent answer there = subst (λ (sends : List Send). IsReplyTo a answer sends) (sends-alike new i gateway (Datagram a octets) now out frame-flush framed) there
 
-  frame-accept : (bits topic qos : ℕ) (body : List ℕ) → IsPublished gateway.config.predefined (seen_of gateway.taken) gateway.local a bits topic qos body (messages frame-plan.ops) → IsAccepted gateway a bits topic qos body out Holds
+  frame-accept : (bits topic qos : ℕ) (body : List ℕ) → IsPublished gateway.config.predefined (seen_of gateway.taken) gateway.local a bits topic qos body (new_messages frame-plan.ops) → IsAccepted gateway a bits topic qos body out Holds
   frame-accept bits topic qos body published = accept new i gateway (Datagram a octets) now out frame-flush framed Holds (holds framed.next framed.here) a bits topic qos body published
 
   pub frame-puback : (flags : Flags) (topic msg_id t m : ℕ) (body : List ℕ) → IsValue (frames.Publish flags topic msg_id body) → Spells octets (frames.Publish flags topic msg_id body) → qos_of flags.bits ≡ One
-      → IsAnswered a (frames.PubAck t m 0) out.sends → IsAccepted gateway a flags.bits topic 1 body out Holds
+      → IsReplyTo a (frames.PubAck t m 0) out.sends → IsAccepted gateway a flags.bits topic 1 body out Holds
   frame-puback flags topic msg_id t m body value spells q there =
       frame-accept flags.bits topic 1 body
       (puback-put gateway.config.gateway gateway.config.lifetime gateway.config.predefined (seen_of gateway.taken) gateway.local a flags topic msg_id body now frame-plan
       (frame-step (frames.Publish flags topic msg_id body) value spells) t m q (frame-sent (frames.PubAck t m 0) there))
 
   pub frame-pubrec : (flags : Flags) (topic msg_id m : ℕ) (body : List ℕ) → IsValue (frames.Publish flags topic msg_id body) → Spells octets (frames.Publish flags topic msg_id body) → qos_of flags.bits ≡ Two
-      → IsAnswered a (frames.PubRec m) out.sends → IsAccepted gateway a flags.bits topic 2 body out Holds ⊎ HasReceived (seen_of gateway.taken) gateway.local a msg_id
+      → IsReplyTo a (frames.PubRec m) out.sends → IsAccepted gateway a flags.bits topic 2 body out Holds ⊎ HasReceived (seen_of gateway.taken) gateway.local a msg_id
   frame-pubrec flags topic msg_id m body value spells q there =
       elim (pubrec-put gateway.config.gateway gateway.config.lifetime gateway.config.predefined (seen_of gateway.taken) gateway.local a flags topic msg_id body now frame-plan
       (frame-step (frames.Publish flags topic msg_id body) value spells) m q (frame-sent (frames.PubRec m) there)) [
@@ -181,7 +181,7 @@ module _ (configs : List Config) (old new : Field) (number i : ℕ) (gateway : G
   ticked : HasStepped new i gateway Clock now out
   ticked = has-stepped old new number i gateway Clock now (said h.answer) out h.at h.says h.after
 
-  tick-flush : AreFlush gateway.config.gateway gateway.taken
+  tick-flush : HaveNoGap gateway.config.gateway gateway.taken
   tick-flush = flush-at configs (Tick number now) out old new number i gateway h h.at
 
   pub tick-served : (p : NewPut) → Contains (puts_by_tick gateway.config.gateway gateway.config.advertise gateway.config.field (seen_of gateway.taken) gateway.local now) p → IsServed gateway out p.client p.topic p.qos p.body Holds

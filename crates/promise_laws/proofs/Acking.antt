@@ -18,7 +18,7 @@ use Rattle.gw_world.specs.declared.event.Event.{Event}
 use Rattle.gw_world.specs.declared.event.Answer.{Answer}
 use Rattle.gw_world.specs.Field.{Field, new_field, After, Run}
 use Rattle.gw_world.proofs.Answering.{Answered}
-use Rattle.promise_laws.specs.Acknowledged.{IsAcknowledgedIn, HasCause, Acknowledges, IsWrittenBy}
+use Rattle.promise_laws.specs.Acknowledged.{IsAcknowledgedIn, HasAckCause, Acknowledges, IsWrittenBy}
 use Rattle.promise_laws.proofs.Coming.{Comes, after-in, start-none}
 
 or_cases : (a b : Bool) → (a || b) ≡ true → (a ≡ true) ⊎ (b ≡ true)
@@ -51,7 +51,7 @@ module _ (c : List ℕ) (name : ℕ × ℕ) where
   pub acks-answered : (S : List Op) (made : List (List Op)) → Answered S made → Acks (all_of made) → Acks S
   acks-answered S made is e = is.within.acknowledgements_in c name e
 
-  pub plan-cause : (gateway : Gateway) (occasion : Occasion) (now : ℕ) (plan : Plan) → IsPlan gateway occasion now (Some plan) → Acks plan.ops → HasCause gateway occasion now plan.sends c name
+  pub plan-cause : (gateway : Gateway) (occasion : Occasion) (now : ℕ) (plan : Plan) → IsPlan gateway occasion now (Some plan) → Acks plan.ops → HasAckCause gateway occasion now plan.sends c name
   plan-cause gateway (Datagram from bytes) now plan h e =
       (h.0, h.1, h.2, step-cause gateway.config.gateway gateway.config.lifetime gateway.config.predefined (seen_of gateway.taken) gateway.local from h.0 now plan c name h.3 e)
   plan-cause gateway Clock now plan h e =
@@ -65,7 +65,7 @@ module _ (c : List ℕ) (name : ℕ × ℕ) where
   -- the plan acknowledges it, for a cause
   pub record Causes (gateway : Gateway) (occasion : Occasion) (now : ℕ) (plan : Plan) : Type 0 where
     pub has : Acks plan.ops
-    pub cause : HasCause gateway occasion now plan.sends c name
+    pub cause : HasAckCause gateway occasion now plan.sends c name
 
   pub plan-new : (gateway : Gateway) (occasion : Occasion) (now : ℕ) (plan : Plan) → IsPlan gateway occasion now (Some plan) → Acks plan.ops → Acks gateway.taken ⊎ Causes gateway occasion now plan
   plan-new gateway occasion now plan planned e = inr (record { has = e; cause = plan-cause gateway occasion now plan planned e })

@@ -22,7 +22,7 @@ use Rattle.sn_plan.specs.Asking.{retain_asked}
 use Rattle.sn_plan.specs.Drafts.{Drafted, nothing, changed, lasting, sent, moved}
 use Rattle.sn_plan.specs.Rows.{row_lasting}
 use Rattle.sn_local.specs.Lifetimes.{expires_at}
-use Rattle.sn_plan.specs.Own.{messages}
+use Rattle.sn_plan.specs.Own.{new_messages}
 use Rattle.sn_publish.specs.declared.meaning.Meant.{Meant}
 use Rattle.sn_publish.specs.Publishing.{publication_meant, posted, publish_meant, publish}
 use Rattle.sn_publish.specs.Recipients.{puts_for}
@@ -31,7 +31,7 @@ use Rattle.sn_deliver.specs.Serving.{publish_of, publish_in_at}
 use Rattle.sn_deliver.specs.Steps.{row_for, step}
 use Rattle.put_laws.proofs.Acked.{plan-sends}
 use Rattle.put_laws.proofs.Grown.{follows-stay}
-use Rattle.put_laws.specs.Puts.{puts_of, puts_at, puts_bound, puts_by_level, IsAnswered, IsPublished}
+use Rattle.put_laws.specs.Puts.{puts_of, puts_at, puts_bound, puts_by_level, IsReplyTo, IsPublished}
 use Rattle.put_laws.proofs.Putting.{step-messages}
 use Rattle.promise_laws.proofs.Carrying.{IsNewPublish}
 
@@ -47,7 +47,7 @@ module _ (g lifetime : ℕ) (predefined : Entries) (seen : Seen) (local : Local)
   meant = publication_meant predefined s new.flags.bits new.topic new.body
 
   -- the messages of the step are those for the recipients
-  pub new-published : IsPublished predefined seen local a new.flags.bits new.topic 2 new.body (messages plan.ops)
+  pub new-published : IsPublished predefined seen local a new.flags.bits new.topic 2 new.body (new_messages plan.ops)
   new-published =
       let puts = puts_for seen new.name 2 new.body in (
         c,
@@ -88,7 +88,7 @@ module _ (g lifetime : ℕ) (predefined : Entries) (seen : Seen) (local : Local)
   unfolding step
   of-publish x e = subst (λ f. deliver_next g predefined seen a now (row_lasting (expires_at lifetime now) (row_for g predefined seen local a f now)) ≡ Some plan) e is
 
-  pub new-answered : IsAnswered a (frames.PubRec id) plan.sends
+  pub new-answered : IsReplyTo a (frames.PubRec id) plan.sends
   new-answered =
       let row : Drafted = lasting (expires_at lifetime now) (moved (Heard c now) row_of_two) in
       let whole : Drafted = followed_by predefined (peer_at a c now) s (seen.of c).pending row follows.Delivery in

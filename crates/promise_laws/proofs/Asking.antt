@@ -4,7 +4,7 @@ use Rattle.std.proofs.lemmas.Bool.{and_parts, lt-ltb, ltb-false, ltb-true}
 use Rattle.std.proofs.lemmas.List.Elements.{All-contains}
 use Rattle.std.proofs.lemmas.Option.{none-some, same_Some}
 use Rattle.sn_topic.specs.Matching.{is_match}
-use Rattle.sn_topic.specs.Table.{Entries, name_of}
+use Rattle.sn_topic.specs.Table.{Entries, name_of_id}
 use Rattle.sn_topic.specs.Topics.{is_name, name_asked}
 use Rattle.sn_topic.proofs.Rule.{is_match-Matches}
 use Rattle.sn_tables.specs.declared.subscriptions.Subscription.{Subscription}
@@ -23,8 +23,8 @@ use Rattle.rep_model.specs.declared.view.ClientView.{ClientView}
 use Rattle.sn_plan.specs.Others.{is_up}
 use Rattle.sn_publish.specs.declared.meaning.Meant.{Meant}
 use Rattle.sn_publish.specs.declared.meaning.Meant.TheVariants.{Topic, Refused}
-use Rattle.sn_publish.specs.Publishing.{named, short_name, entry_name, topic_meant, within_limit, publication_meant}
-use Rattle.sn_publish.specs.Recipients.{qos_at, qos_in, qos_for}
+use Rattle.sn_publish.specs.Publishing.{topic_or_refused, short_name, entry_name, topic_meant, within_limit, publication_meant}
+use Rattle.sn_publish.specs.Recipients.{effective_qos, qos_in, qos_for}
 use Rattle.put_laws.proofs.Acked.{none-there}
 use Rattle.promise_laws.specs.Asked.{IsThere, AsksFor, IsNameFor, IsAbout}
 use Rattle.promise_laws.proofs.Serving.{head_there, behind_there, head_or}
@@ -131,7 +131,7 @@ there-or presence q e =
     ] refl e
 
 module _ (name : List ℕ) (qos : ℕ) (v : ClientView) (q : ℕ) where
-  of-greatest : (s : Session) → v.session ≡ Some s → (m : ℕ) → subscribed_qos name s.subscriptions ≡ Some m → qos_at v.pending qos s m ≡ Some q → AsksFor name qos v
+  of-greatest : (s : Session) → v.session ≡ Some s → (m : ℕ) → subscribed_qos name s.subscriptions ≡ Some m → effective_qos v.pending qos s m ≡ Some q → AsksFor name qos v
   of-greatest s is m greatest e =
       let test = and_parts (nat_lt (length v.pending) 1024) (is_up s.presence || nat_lt 0 (min qos m)) (if-some (nat_lt (length v.pending) 1024 && (is_up s.presence || nat_lt 0 (min qos m))) (min qos m) q e) in
       let w = asked-only name s.subscriptions m (greatest_is (asked_qos name s.subscriptions) (Some m) (sym greatest)).among in
@@ -147,7 +147,7 @@ module _ (name : List ℕ) (qos : ℕ) (v : ClientView) (q : ℕ) where
 
   of-session : (s : Session) → v.session ≡ Some s → qos_in v.pending name qos s ≡ Some q → AsksFor name qos v
   of-session s is e =
-      elim (subscribed_qos name s.subscriptions) as (λ o. subscribed_qos name s.subscriptions ≡ o → option_and_then (qos_at v.pending qos s) o ≡ Some q → AsksFor name qos v) [
+      elim (subscribed_qos name s.subscriptions) as (λ o. subscribed_qos name s.subscriptions ≡ o → option_and_then (effective_qos v.pending qos s) o ≡ Some q → AsksFor name qos v) [
         | None ↦ λ _ none. absurd (none-some q none)
         | Some m ↦ λ greatest gets. of-greatest s is m greatest gets
       ] refl e
@@ -177,7 +177,7 @@ same-topic : (one other : List ℕ) → Topic one ≡ Topic other → one ≡ ot
 same-topic one other e = ap (λ (m : Meant). name_or m []) e
 
 -- a name that is there is the one that is meant
-named-is : (o : Option (List ℕ)) (name : List ℕ) → named o ≡ Topic name → o ≡ Some name
+named-is : (o : Option (List ℕ)) (name : List ℕ) → topic_or_refused o ≡ Topic name → o ≡ Some name
 named-is None name e = absurd (no-topic 2 name e)
 named-is (Some found) name e = ap Some (same-topic found name e)
 
@@ -195,7 +195,7 @@ short-is false octets name e = absurd (none-some name e)
 
 meant-name : (predefined : Entries) (s : Session) (kind : TopicIdType) (topic : ℕ) (name : List ℕ) → topic_meant predefined s kind topic ≡ Topic name → IsNameFor predefined s kind topic name
 meant-name predefined s kinds.Normal topic name e = entry-there topic s.topics name (named-is (option_map entry_name (topic_of topic s.topics)) name e)
-meant-name predefined s kinds.Predefined topic name e = named-is (name_of topic predefined) name e
+meant-name predefined s kinds.Predefined topic name e = named-is (name_of_id topic predefined) name e
 meant-name predefined s kinds.Short topic name e = short-is (is_name (short_name topic)) (short_name topic) name (named-is (name_asked (short_name topic)) name e)
 meant-name predefined s kinds.Reserved topic name e = absurd (no-topic 3 name e)
 

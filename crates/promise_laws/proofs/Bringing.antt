@@ -6,7 +6,7 @@ use Rattle.sn_tables.specs.Received.{is_received, with_received, without_receive
 use Rattle.sn_session.specs.declared.session.Session.{Session}
 use Rattle.sn_session.specs.declared.change.SessionOp.{SessionOp}
 use Rattle.sn_session.specs.declared.change.SessionOp.TheVariants.{Take, Presence, Register, Subscribe, Unsubscribe, WillTopic, WillMsg, Received, Released, Outbound}
-use Rattle.sn_session.specs.Session.{applied, is_full, changed as changed_by, empty_session}
+use Rattle.sn_session.specs.Session.{applied, is_full, session_changed, empty_session}
 use Rattle.rep_op.specs.declared.op.Stamp.{Stamp}
 use Rattle.rep_op.specs.declared.op.Op.{Op}
 use Rattle.rep_op.specs.declared.op.Op.TheVariants.{Session as OfSession}
@@ -64,7 +64,7 @@ there_before n id (a ∷ rest) h = kept_or_not (not (a == n)) id a (without_rece
 
 -- ---- one change
 
-changed-brings : (s : Session) (change : SessionOp) (id : ℕ) → is_received id (changed_by s change).received ≡ true → Brings id change ⊎ (is_received id s.received ≡ true)
+changed-brings : (s : Session) (change : SessionOp) (id : ℕ) → is_received id (session_changed s change).received ≡ true → Brings id change ⊎ (is_received id s.received ≡ true)
 changed-brings s (Take taken) id h = inl h
 changed-brings s (Presence presence duration) id h = inr h
 changed-brings s (Register topic name known) id h = inr h
@@ -82,7 +82,7 @@ choose_brings false s t id C f g h = g h
 
 pub applied-brings : (s : Session) (change : SessionOp) (id : ℕ) → is_received id (applied s change).received ≡ true → Brings id change ⊎ (is_received id s.received ≡ true)
 applied-brings s change id h =
-    choose_brings (is_full s change) s (changed_by s change) id (Brings id change ⊎ (is_received id s.received ≡ true)) (λ e. inr e) (changed-brings s change id) h
+    choose_brings (is_full s change) s (session_changed s change) id (Brings id change ⊎ (is_received id s.received ≡ true)) (λ e. inr e) (changed-brings s change id) h
 
 -- ---- the session of a history
 

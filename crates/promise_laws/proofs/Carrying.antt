@@ -16,7 +16,7 @@ use Rattle.sn_session.specs.Session.{empty_session}
 use Rattle.sn_tables.specs.declared.topics.TopicEntry.{TopicEntry}
 use Rattle.sn_tables.specs.Received.{is_received, id_has_no_room}
 use Rattle.sn_tables.specs.Topics.{topic_named, free_id}
-use Rattle.sn_tables.specs.Subscriptions.{qos_of as subscribed_at, filter_has_no_room}
+use Rattle.sn_tables.specs.Subscriptions.{filter_qos, filter_has_no_room}
 use Rattle.sn_frame.specs.declared.flags.Flags.{Flags}
 use Rattle.sn_frame.specs.declared.flags.Qos.{Qos}
 use Rattle.sn_frame.specs.declared.flags.Qos.TheVariants as levels
@@ -42,7 +42,7 @@ use Rattle.sn_flow.specs.declared.accept.GivenWill.{GivenWill}
 use Rattle.sn_flow.specs.declared.accept.GivenWill.TheVariants.{AsItIs, Deleted, Replaced}
 use Rattle.sn_flow.specs.Accept.{going_on, accept, has_no_room}
 use Rattle.sn_flow.specs.Connection.{has_bit, request_of, refusal_of, connect_row, connect, leave, fall_asleep, disconnect_draft, disconnect_of}
-use Rattle.sn_flow.specs.Wills.{congestion, not_supported, dismissed, concluded, topic_given, topic_row, topic_in, topic_at, will_of, message_row, message_in, message_at, topic_update_of, message_update_of}
+use Rattle.sn_flow.specs.Wills.{congestion, not_supported, dismissed, concluded, topic_given, topic_row, will_topic_in, will_topic_from, will_of, message_row, message_in, will_message_from, topic_update_of, message_update_of}
 use Rattle.sn_flow.specs.WillUpdate.{topic_asked, topic_set, will_topic_update as topic_update, has_no_place, message_accepted}
 use Rattle.sn_plan.specs.declared.asking.Asked.{Asked}
 use Rattle.sn_plan.specs.declared.asking.Asked.TheVariants.{Topics, Refused}
@@ -52,7 +52,7 @@ use Rattle.sn_plan.specs.Asking.{qos_asked, retain_asked, topics_asked}
 use Rattle.sn_plan.specs.Bound.{bound_to, session_of}
 use Rattle.sn_plan.specs.Drafts.{Drafted, nothing, changed, changed_if, sent, moved}
 use Rattle.sn_plan.specs.Others.{other}
-use Rattle.sn_plan.specs.Rows.{row_of, heard_row, stray}
+use Rattle.sn_plan.specs.Rows.{row_of, row_with_timer, unexpected_row}
 use Rattle.sn_plan.proofs.Lists.{all-append}
 use Rattle.sn_subscribe.specs.declared.registration.NamedId.{NamedId}
 use Rattle.sn_subscribe.specs.Registration.{entry_or_free, id_for, registered, register_name}
@@ -64,9 +64,9 @@ use Rattle.sn_publish.specs.declared.meaning.Meant.TheVariants as meanings
 use Rattle.sn_publish.specs.Publishing.{publication_meant, posted, publish_at, publish_meant, release}
 use Rattle.sn_exchange.specs.declared.peer.Peer.{Peer}
 use Rattle.sn_exchange.specs.Following.{peer_at}
-use Rattle.sn_deliver.specs.Acknowledging.{awaiting, put_awaiting, over, done, told, entry_published, forgotten, puback_of, awaiting_pubrec, pubrec_again, pubrec_of, pubcomp_of, registered as registered_by, regack_of, acknowledge}
-use Rattle.sn_deliver.specs.Serving.{publish_of, publish_in_at, pubrel_of, ack_of}
-use Rattle.sn_deliver.specs.Waking.{claimed, has_nothing, answered, woken_by, woken_if, woken, wake_of, wake}
+use Rattle.sn_deliver.specs.Acknowledging.{awaiting, put_awaiting, over, done, id_told, entry_published, forgotten, puback_of, awaiting_pubrec, pubrec_again, pubrec_of, pubcomp_of, id_known, regack_of, acknowledge}
+use Rattle.sn_deliver.specs.Serving.{publish_of, publish_in_at, pubrel_of, ack_row}
+use Rattle.sn_deliver.specs.Waking.{claimed, has_nothing, ping_answered, woken_by, woken_if, woken, wake_of, wake}
 use Rattle.sn_deliver.specs.Steps.{row_for}
 use Rattle.promise_laws.proofs.Bringing.{Brings}
 
@@ -133,11 +133,11 @@ module _ (seen : Seen) (A : List ℕ → ℕ → Type 0) where
   for-moved None change d h = tt
   for-moved (Some c) change d h = h
 
-  heard-carried : (bound : Option (List ℕ)) (now : ℕ) (row : Row) → CarriedRow row → CarriedRow (heard_row bound now row)
+  heard-carried : (bound : Option (List ℕ)) (now : ℕ) (row : Row) → CarriedRow row → CarriedRow (row_with_timer bound now row)
   heard-carried None now row h = h
   heard-carried (Some c) now row h = for-moved row.client (Heard c now) row.draft h
 
-  stray-carried : (a : Addr) (bound : Option (List ℕ)) (now : ℕ) → CarriedRow (stray a bound now)
+  stray-carried : (a : Addr) (bound : Option (List ℕ)) (now : ℕ) → CarriedRow (unexpected_row a bound now)
   stray-carried a None now = tt
   stray-carried a (Some c) now = tt
 
@@ -183,11 +183,11 @@ module _ (seen : Seen) (A : List ℕ → ℕ → Type 0) where
   topic_row-carried dialog None now = concluded-carried dialog.request Deleted now
   topic_row-carried dialog (Some will) now = topic_given-carried dialog (topic_asked will)
 
-  topic_in-carried : (a : Addr) (bound : Option (List ℕ)) (dialog : WillDialog) (will : Option Will) (now : ℕ) (awaited : Awaited) → CarriedRow (topic_in seen a bound dialog will now awaited)
+  topic_in-carried : (a : Addr) (bound : Option (List ℕ)) (dialog : WillDialog) (will : Option Will) (now : ℕ) (awaited : Awaited) → CarriedRow (will_topic_in seen a bound dialog will now awaited)
   topic_in-carried a bound dialog will now Topic = heard-carried bound now (topic_row seen dialog will now) (topic_row-carried dialog will now)
   topic_in-carried a bound dialog will now (Message topic) = stray-carried a bound now
 
-  topic_at-carried : (a : Addr) (bound : Option (List ℕ)) (dialog : Option WillDialog) (will : Option Will) (now : ℕ) → CarriedRow (topic_at seen a bound dialog will now)
+  topic_at-carried : (a : Addr) (bound : Option (List ℕ)) (dialog : Option WillDialog) (will : Option Will) (now : ℕ) → CarriedRow (will_topic_from seen a bound dialog will now)
   topic_at-carried a bound None will now = stray-carried a bound now
   topic_at-carried a bound (Some dialog) will now = topic_in-carried a bound dialog will now dialog.awaited
 
@@ -200,7 +200,7 @@ module _ (seen : Seen) (A : List ℕ → ℕ → Type 0) where
   message_in-carried a bound request message now Topic = stray-carried a bound now
   message_in-carried a bound request message now (Message topic) = heard-carried bound now (message_row seen request topic message now) (message_row-carried request topic message now)
 
-  message_at-carried : (a : Addr) (bound : Option (List ℕ)) (dialog : Option WillDialog) (message : List ℕ) (now : ℕ) → CarriedRow (message_at seen a bound dialog message now)
+  message_at-carried : (a : Addr) (bound : Option (List ℕ)) (dialog : Option WillDialog) (message : List ℕ) (now : ℕ) → CarriedRow (will_message_from seen a bound dialog message now)
   message_at-carried a bound None message now = stray-carried a bound now
   message_at-carried a bound (Some dialog) message now = message_in-carried a bound dialog.request message now dialog.awaited
 
@@ -260,7 +260,7 @@ module _ (seen : Seen) (A : List ℕ → ℕ → Type 0) where
   subscribed-carried : (waiting : ℕ) (a : Addr) (c : List ℕ) (s : Session) (bits msg_id : ℕ) (filter : List ℕ) (qos : ℕ) (named : Option NamedId) → IfSome named (λ (n : NamedId). IfSome n.change (IsCarried c)) → Carried c (subscribed seen waiting a s bits msg_id filter qos named)
   subscribed-carried waiting a c s bits msg_id filter qos None h = tt
   subscribed-carried waiting a c s bits msg_id filter qos (Some named) h =
-      carried-if c (subscribe_change filter qos (subscribed_at filter s.subscriptions)) (changed_if named.change nothing) (subscribe_change-carried c filter qos (subscribed_at filter s.subscriptions))
+      carried-if c (subscribe_change filter qos (filter_qos filter s.subscriptions)) (changed_if named.change nothing) (subscribe_change-carried c filter qos (filter_qos filter s.subscriptions))
       (carried-if c named.change nothing h tt)
 
   asked-carried : (waiting : ℕ) (a : Addr) (c : List ℕ) (s : Session) (bits msg_id : ℕ) (field : List ℕ) (asked : Asked) (qos : ℕ) → Carried c (subscribe_asked seen waiting a s bits msg_id field asked qos)
@@ -279,7 +279,7 @@ module _ (seen : Seen) (A : List ℕ → ℕ → Type 0) where
 
   unsubscribe_asked-carried : (c : List ℕ) (s : Session) (asked : Asked) → IfSome (unsubscribe_asked s asked) (IsCarried c)
   unsubscribe_asked-carried c s (Refused code) = tt
-  unsubscribe_asked-carried c s (Topics filter) = some-carried c (is_some (subscribed_at filter s.subscriptions)) (Unsubscribe filter) (λ id b. absurd b)
+  unsubscribe_asked-carried c s (Topics filter) = some-carried c (is_some (filter_qos filter s.subscriptions)) (Unsubscribe filter) (λ id b. absurd b)
 
   unsubscribe_of-carried : (p : Entries) (a : Addr) (bound : Option (List ℕ)) (bits msg_id : ℕ) (field : List ℕ) (now : ℕ) → CarriedRow (unsubscribe_of p seen a bound bits msg_id field now)
   unsubscribe_of-carried p a None bits msg_id field now = tt
@@ -338,7 +338,7 @@ module _ (seen : Seen) (A : List ℕ → ℕ → Type 0) where
     done-carried : (put : Put) → Carried c (done s put)
     done-carried put = ((λ id b. absurd b), tt)
 
-    told-carried : (entry : TopicEntry) (known : Bool) → Carried c (over s (told entry known nothing))
+    told-carried : (entry : TopicEntry) (known : Bool) → Carried c (over s (id_told entry known nothing))
     told-carried entry known = ((λ id b. absurd b), ((λ id b. absurd b), tt))
 
     forgotten-carried : (put : Put) (entry : Option TopicEntry) → Carried c (forgotten s put entry)
@@ -365,14 +365,14 @@ module _ (seen : Seen) (A : List ℕ → ℕ → Type 0) where
     pubcomp-carried None = tt
     pubcomp-carried (Some x) = ((λ id b. absurd b), tt)
 
-    registered_by-carried : (entry : Option TopicEntry) → Carried c (registered_by s entry)
+    registered_by-carried : (entry : Option TopicEntry) → Carried c (id_known s entry)
     registered_by-carried None = tt
     registered_by-carried (Some entry) = told-carried entry true
 
     regack-carried : (code : ℕ) (put : Option Put) → Carried c (regack_of s code put)
     regack-carried code None = tt
     regack-carried code (Some put) =
-        choose-carried c (code == 0) (registered_by s (topic_named put.topic s.topics)) (if code == 1 then nothing else done s put) (registered_by-carried (topic_named put.topic s.topics))
+        choose-carried c (code == 0) (id_known s (topic_named put.topic s.topics)) (if code == 1 then nothing else done s put) (registered_by-carried (topic_named put.topic s.topics))
         (choose-carried c (code == 1) nothing (done s put) tt (done-carried put))
 
     acknowledge-carried : (p : Entries) (peer : Peer) (frame : Frame) → Carried c (acknowledge p peer s pending frame)
@@ -382,7 +382,7 @@ module _ (seen : Seen) (A : List ℕ → ℕ → Type 0) where
     acknowledge-carried p peer (frames.RegAck topic_id msg_id code) = regack-carried code (put_awaiting s pending phases.Registering msg_id)
     acknowledge-carried p peer frame = tt
 
-  ack_of-carried : (p : Entries) (a : Addr) (bound : Option (List ℕ)) (frame : Frame) (now : ℕ) → CarriedRow (ack_of p seen a bound frame now)
+  ack_of-carried : (p : Entries) (a : Addr) (bound : Option (List ℕ)) (frame : Frame) (now : ℕ) → CarriedRow (ack_row p seen a bound frame now)
   ack_of-carried p a None frame now = tt
   ack_of-carried p a (Some c) frame now = acknowledge-carried c (session_of seen c) (seen.of c).pending p (peer_at a c now) frame
 
@@ -391,10 +391,10 @@ module _ (seen : Seen) (A : List ℕ → ℕ → Type 0) where
   woken_by-carried : (a : Addr) (c : List ℕ) (s : Session) (idle : Bool) (d : Drafted) (state : State) → Carried c d → CarriedRow (woken_by a c s idle d state)
   woken_by-carried a c s idle d Active h = h
   woken_by-carried a c s idle d Asleep h =
-      choose-row idle (row_of follows.Nothing c (answered a d)) (row_of follows.Resend c (changed (Presence Awake s.duration) d)) h
+      choose-row idle (row_of follows.Nothing c (ping_answered a d)) (row_of follows.Resend c (changed (Presence Awake s.duration) d)) h
       (carried-more c (Presence Awake s.duration) d (λ id b. absurd b) h)
   woken_by-carried a c s idle d Awake h =
-      choose-row idle (row_of follows.Nothing c (answered a (changed (Presence Asleep s.duration) d))) (row_of follows.Resend c d)
+      choose-row idle (row_of follows.Nothing c (ping_answered a (changed (Presence Asleep s.duration) d))) (row_of follows.Resend c d)
       (carried-more c (Presence Asleep s.duration) d (λ id b. absurd b) h) h
   woken_by-carried a c s idle d Disconnected h = tt
   woken_by-carried a c s idle d Lost h = tt
@@ -412,7 +412,7 @@ module _ (seen : Seen) (A : List ℕ → ℕ → Type 0) where
 
   wake-carried : (g : ℕ) (local : Local) (a : Addr) (c : List ℕ) (now : ℕ) → CarriedRow (wake g seen local a c now)
   wake-carried g local a c now =
-      choose-row (length c == 0) (wake_of g seen a (client_at a local.bindings) now) (heard_row (client_at a local.bindings) now (woken g seen a c now)) (wake_of-carried g a (client_at a local.bindings) now)
+      choose-row (length c == 0) (wake_of g seen a (client_at a local.bindings) now) (row_with_timer (client_at a local.bindings) now (woken g seen a c now)) (wake_of-carried g a (client_at a local.bindings) now)
       (heard-carried (client_at a local.bindings) now (woken g seen a c now) (woken_if-carried g a c now (seen.of c).session refl))
 
   -- ---- other frames

@@ -33,7 +33,7 @@ use Rattle.gw_world.specs.declared.event.Event.{Event}
 use Rattle.gw_world.specs.declared.event.Event.TheVariants.{Frame, Tick, Take, Together as AtOnce, Answer as Asks, WriteFails, Compact, Restart, Show}
 use Rattle.gw_world.specs.declared.event.Answer.{Answer}
 use Rattle.gw_world.specs.declared.event.Answer.TheVariants.{Node, Row, Views, Records, Nothing}
-use Rattle.gw_world.specs.Field.{Field, new_field, IsAt, IsStepOf, AreStepsOf, AreFed, changed, failing, After}
+use Rattle.gw_world.specs.Field.{Field, new_field, IsAt, IsStepOf, AreStepsOf, AreFed, field_changed, failing_gateway, After}
 use Rattle.gw_world.specs.Steps.{AnswerStep, restarted}
 use Rattle.gw_world.specs.Whole.{listed}
 use Rattle.gw_world.proofs.Answering.{Answered, answered}
@@ -190,8 +190,8 @@ module _ (P : List Op → Type 0) (none : P [] → ⊥) (both : (A B : List Op) 
         by_made = λ e. absurd (none e);
       }
 
-      failing-explained : (bytes : ℕ) (sync : Bool) → Explained (failing bytes sync gateway) []
-      failing-explained bytes sync = unchanged (failing bytes sync gateway) [] refl refl refl
+      failing-explained : (bytes : ℕ) (sync : Bool) → Explained (failing_gateway bytes sync gateway) []
+      failing-explained bytes sync = unchanged (failing_gateway bytes sync gateway) [] refl refl refl
 
     -- ---- calls of a row, one after the other
 
@@ -243,7 +243,7 @@ module _ (P : List Op → Type 0) (none : P [] → ⊥) (both : (A B : List Op) 
       in-list : (made : List (List Op)) → (P (all_of made) → Q) → P (all_of (old.deltas ++ made)) → Q
       in-list made by e = elim (joined old.deltas made e) [ inl before ↦ known (inr before) | inr new ↦ by new ]
 
-      in-changed : (i : ℕ) (next : Gateway) (made : List (List Op)) → Explained next made → IsIn (changed old i next made) → Q
+      in-changed : (i : ℕ) (next : Gateway) (made : List (List Op)) → Explained next made → IsIn (field_changed old i next made) → Q
       in-changed i next made x (inl at) = in-place i next made x at
       in-changed i next made x (inr there) = in-list made x.by_made there
 
@@ -272,7 +272,7 @@ module _ (P : List Op → Type 0) (none : P [] → ⊥) (both : (A B : List Op) 
       inr (record { gateway = gateway; occasion = occasion; moment = now; plan = plan; comes = inl (number, i, at, is, ends); planned = planned; new = new })
 
   own-in : (old : Field) (event : Event) (number i : ℕ) (gateway next : Gateway) (made : List (List Op)) → IsAt old number i gateway → (occasion : Occasion) (now : ℕ) → IsOccasion event number occasion now → (answer : Result (Arc Out Global) NodeFault)
-      → OwnStep gateway occasion now (said answer) next made → IsIn (changed old i next made) → Before old event (Node answer)
+      → OwnStep gateway occasion now (said answer) next made → IsIn (field_changed old i next made) → Before old event (Node answer)
   own-in old event number i gateway next made at occasion now is answer h =
       in-changed (Before old event (Node answer)) old inl i next made
       (own-explained (Before old event (Node answer)) gateway (here-taken (Before old event (Node answer)) old inl i gateway at.1) (here-refused (Before old event (Node answer)) old inl i gateway at.1) occasion now (said answer) next made h
@@ -321,7 +321,7 @@ module _ (P : List Op → Type 0) (none : P [] → ⊥) (both : (A B : List Op) 
           by_made = before.by_made;
         }
 
-    row-in : (given : List Step) (next : Gateway) (made : List (List Op)) → AreStepsOf old called given → AreFed (map said answers) → Together gateway given (map said answers) next made → IsIn (changed old i next made) → Q
+    row-in : (given : List Step) (next : Gateway) (made : List (List Op)) → AreStepsOf old called given → AreFed (map said answers) → Together gateway given (map said answers) next made → IsIn (field_changed old i next made) → Q
     row-in given next made is fed (inl h) e =
         in-changed Q old inl i next made
         (done-explained next made called [] given (map said answers) [] (sym (append-nil called)) (sym (append-nil (map said answers))) is (turn-fed gateway next given (map said answers) made fed h.0)) e
@@ -344,7 +344,7 @@ module _ (P : List Op → Type 0) (none : P [] → ⊥) (both : (A B : List Op) 
       in-asked (Before old (Asks number peer) (Node answer)) old inl h.1 h.2 h.3 (said answer) h.4 h.6.1 h.7 (subst IsIn h.8 e)
   after-in old (WriteFails number bytes sync) Nothing new h e =
       let Q : Type 0 = Before old (WriteFails number bytes sync) Nothing in
-      in-changed Q old inl h.0 (failing bytes sync h.1) []
+      in-changed Q old inl h.0 (failing_gateway bytes sync h.1) []
       (failing-explained Q h.1 (here-taken Q old inl h.0 h.1 h.2.1) (here-refused Q old inl h.0 h.1 h.2.1) bytes sync) (subst IsIn h.3 e)
   after-in old (Compact number) (Node answer) new h e =
       let Q : Type 0 = Before old (Compact number) (Node answer) in

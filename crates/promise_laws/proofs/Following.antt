@@ -24,7 +24,7 @@ use Rattle.sn_exchange.specs.declared.form.Form.{Form}
 use Rattle.sn_exchange.specs.declared.peer.Peer.{Peer}
 use Rattle.sn_exchange.specs.Forms.{form_of, form_again, publication}
 use Rattle.sn_exchange.specs.Exchanges.{left, put_left, message_of, open_exchange, is_served, is_awake}
-use Rattle.sn_exchange.specs.Delivery.{next_after, Stop, begun, entry_or_fresh, id_to_tell, register_first, deliver_by, none_left, and_then, deliver, deliver_left, deliver_if}
+use Rattle.sn_exchange.specs.Delivery.{next_after, Stop, exchange_begun, entry_or_fresh, id_to_tell, register_first, deliver_by, none_left, and_then, deliver, deliver_left, deliver_if}
 use Rattle.sn_exchange.specs.Resending.{register_by, register_again, publish_by, publish_again, resend_in, resend_if}
 use Rattle.sn_exchange.specs.Following.{peer_at, followed_by, followed_for}
 use Rattle.promise_laws.proofs.Carrying.{IsCarried, Carried, CarriedFor, carried-more, carried-if, choose-carried}
@@ -47,7 +47,7 @@ module _ (seen : Seen) (A : List ℕ → ℕ → Type 0) (c : List ℕ) where
   told-carried name (Some entry) free = tt
 
   module _ (predefined : Entries) (peer : Peer) (s : Session) where
-    begun-carried : (put : Put) (phase : Phase) (frame : Frame) (d : Drafted) → Holds d → Holds (begun peer s put phase frame d)
+    begun-carried : (put : Put) (phase : Phase) (frame : Frame) (d : Drafted) → Holds d → Holds (exchange_begun peer s put phase frame d)
     begun-carried put phase frame d h =
         let x : Exchange = record { origin = put.origin; seq = put.seq; msg_id = s.next_id; phase = phase } in
         carried-more seen A c (Outbound (Some x) (next_after s.next_id)) d (λ id b. absurd b) h
@@ -62,7 +62,7 @@ module _ (seen : Seen) (A : List ℕ → ℕ → Type 0) (c : List ℕ) where
         register-carried put (id_to_tell s put.topic) d (told-carried put.topic (topic_named put.topic s.topics) (free_id s.topics)) h
     form-carried put (Some form) d h =
         choose-stop (put.qos == 0) (false, acked (name_of put) (sent peer.address (publication false put 0 form) d))
-        (true, begun peer s put Published (publication false put s.next_id form) d) h
+        (true, exchange_begun peer s put Published (publication false put s.next_id form) d) h
         (begun-carried put Published (publication false put s.next_id form) d h)
 
     none-carried : (d : Drafted) → Holds d → Holds (none_left peer s d)

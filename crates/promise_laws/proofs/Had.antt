@@ -40,14 +40,14 @@ use Rattle.gw_world.specs.declared.event.Event.{Event}
 use Rattle.gw_world.specs.declared.event.Event.TheVariants.{Frame, Tick, Take, Together as AtOnce, Answer as Asks, WriteFails, Compact, Restart, Show}
 use Rattle.gw_world.specs.declared.event.Answer.{Answer}
 use Rattle.gw_world.specs.declared.event.Answer.TheVariants.{Node, Row, Views, Records, Nothing}
-use Rattle.gw_world.specs.Field.{Field, new_field, IsAt, IsStepOf, AreStepsOf, AreFed, changed, failing, After, Run}
+use Rattle.gw_world.specs.Field.{Field, new_field, IsAt, IsStepOf, AreStepsOf, AreFed, field_changed, failing_gateway, After, Run}
 use Rattle.gw_world.specs.Steps.{AnswerStep, restarted}
 use Rattle.gw_world.specs.Whole.{listed}
 use Rattle.gw_world.proofs.Answering.{answered}
 use Rattle.gw_world.proofs.InRows.{Answers, cut-at, turn-fed}
 use Rattle.gw_world.proofs.Numbers.{First, place_of-first, first-number, first-kept, set-there}
 use Rattle.field_laws.proofs.Catching.{run-later, later-now}
-use Rattle.promise_laws.specs.Acknowledged.{IsAcknowledgedIn, HasCause}
+use Rattle.promise_laws.specs.Acknowledged.{IsAcknowledgedIn, HasAckCause}
 use Rattle.promise_laws.proofs.Acking.{Acks, none-acks, acks-both, acks-right, acks-of, acks-answered, acks-listed, plan-cause}
 use Rattle.promise_laws.proofs.Coming.{new-place}
 
@@ -123,7 +123,7 @@ module _ (c : List ℕ) (name : ℕ × ℕ) where
       (read_some (is_acknowledged c S (m.seq, m.origin)) (put_at c S (m.seq, m.origin)) m
       (sym (pending_at-reads c S (m.seq, m.origin)) ∙ (pending-listed c S m).0 waits))).0
 
-  pub cause-waits : (gateway : Gateway) (occasion : Occasion) (now : ℕ) (sends : List Send) → HasCause gateway occasion now sends c name → HasPut gateway.taken
+  pub cause-waits : (gateway : Gateway) (occasion : Occasion) (now : ℕ) (sends : List Send) → HasAckCause gateway occasion now sends c name → HasPut gateway.taken
   cause-waits gateway (Datagram from bytes) now sends h = (h.3.1.0, waiting-there gateway.taken h.3.1.0 h.3.1.1, h.3.1.2)
   cause-waits gateway Clock now sends h = (h.1.0, waiting-there gateway.taken h.1.0 h.1.1, h.1.2)
 
@@ -341,7 +341,7 @@ module _ (c : List ℕ) (name : ℕ × ℕ) where
     mapped S (inl has) = inl has
     mapped S (inr before) = inr (later before)
 
-    module _ (i number : ℕ) (gateway next : Gateway) (made : List (List Op)) (at : IsAt old number i gateway) (good : StepGood (HasTaken old) gateway next made) (new_is : new ≡ changed old i next made) where
+    module _ (i number : ℕ) (gateway next : Gateway) (made : List (List Op)) (at : IsAt old number i gateway) (good : StepGood (HasTaken old) gateway next made) (new_is : new ≡ field_changed old i next made) where
       kept-first : (m j : ℕ) (g : Gateway) → slice_get old.gateways j ≡ Some g → First m old.gateways j → First m (set old.gateways i next) j
       kept-first m j g place first = (first-kept m i j old.gateways gateway next g at.1 good.config first place).0
 
@@ -375,7 +375,7 @@ module _ (c : List ℕ) (name : ℕ × ℕ) where
       changed-taken : AreTaken new
       changed-taken = subst (λ (f : Field). (HasTaken old → HasTaken f) → AreTaken f) (sym new_is) (λ _. record { sets = shifted; listed = λ e. subst HasTaken new_is (listed-in e); heard = heard-in }) later
         where
-          shifted : (j : ℕ) (g : Gateway) → slice_get (set old.gateways i next) j ≡ Some g → Sets (HasTaken (changed old i next made)) g
+          shifted : (j : ℕ) (g : Gateway) → slice_get (set old.gateways i next) j ≡ Some g → Sets (HasTaken (field_changed old i next made)) g
           shifted j g place = subst (λ (f : Field). Sets (HasTaken f) g) new_is (sets-in j g place)
 
     asked-taken : (j : ℕ) (asker peer : Gateway) (answer : Result Out Refusal) (made : List (List Op)) → slice_get old.gateways j ≡ Some peer → AnswerStep asker peer answer made → new ≡ record old { deltas = old.deltas ++ made } → AreTaken new
@@ -407,8 +407,8 @@ module _ (c : List ℕ) (name : ℕ × ℕ) where
   after-taken old (Asks number peer) (Node answer) new h are =
       asked-taken old new (taken-later old (Asks number peer) (Node answer) new h) are h.1 h.2 h.3 (said answer) h.4 h.6.1 h.7 h.8
   after-taken old (WriteFails number bytes sync) Nothing new h are =
-      changed-taken old new (taken-later old (WriteFails number bytes sync) Nothing new h) are h.0 number h.1 (failing bytes sync h.1) [] h.2
-      (same-good (HasTaken old) h.1 (failing bytes sync h.1) [] (are.sets h.0 h.1 h.2.1) refl refl refl refl) h.3
+      changed-taken old new (taken-later old (WriteFails number bytes sync) Nothing new h) are h.0 number h.1 (failing_gateway bytes sync h.1) [] h.2
+      (same-good (HasTaken old) h.1 (failing_gateway bytes sync h.1) [] (are.sets h.0 h.1 h.2.1) refl refl refl refl) h.3
   after-taken old (Compact number) (Node answer) new h are =
       changed-taken old new (taken-later old (Compact number) (Node answer) new h) are h.0 number h.1 h.2 [] h.3 (compact-good (HasTaken old) h.1 (said answer) h.2 (are.sets h.0 h.1 h.3.1) h.4) h.5
   after-taken old (Restart number kept) (Records count) new h are =

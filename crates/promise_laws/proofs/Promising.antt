@@ -12,7 +12,7 @@ use Rattle.jr_disk.specs.Disk.{Image}
 use Rattle.jr_journal.specs.Records.{records}
 use Rattle.sn_local.specs.declared.config.Config.{Config}
 use Rattle.sn_local.specs.Seen.{seen_of}
-use Rattle.sn_plan.specs.Own.{IsOwn}
+use Rattle.sn_plan.specs.Own.{IsOwnWrite}
 use Rattle.row_laws.proofs.Names.{plan-own}
 use Rattle.put_laws.proofs.Acked.{none-there}
 use Rattle.gw_answer.specs.declared.out.Out.{Out}
@@ -22,7 +22,7 @@ use Rattle.gw_node.proofs.Taken.{as_taken}
 use Rattle.gw_world.specs.declared.event.Event.{Event}
 use Rattle.gw_world.specs.declared.event.Answer.{Answer}
 use Rattle.gw_world.specs.declared.event.Answer.TheVariants.{Node, Row, Views, Records, Nothing}
-use Rattle.gw_world.specs.Field.{Field, IsAt, Run, gateway_of}
+use Rattle.gw_world.specs.Field.{Field, IsAt, Run, gateway_of_event}
 use Rattle.gw_world.specs.Whole.{listed, everything}
 use Rattle.gw_world.proofs.Alone.{delta-stands}
 use Rattle.gw_world.proofs.Consistency.{field-home, field-due}
@@ -76,7 +76,7 @@ one-home c m deltas number taken delta (inl own) there =
     let stands : put_at c delta (m.seq, m.origin) ≡ Some m = delta-stands delta own.proper (OfPut c m) there in
     let among : Contains own.plan.ops (OfPut c m) = (put_occurs c own.plan.ops (m.seq, m.origin) m (sym (own.same.puts_same c (m.seq, m.origin)) ∙ stands)).0 in
     let d = own.drafted in
-    inl (All-contains (IsOwn number d.client) own.plan.ops (OfPut c m) (All-from_recursion (IsOwn number d.client) own.plan.ops (plan-own number d.client (seen_of taken) d.draft own.plan d.is)) among)
+    inl (All-contains (IsOwnWrite number d.client) own.plan.ops (OfPut c m) (All-from_recursion (IsOwnWrite number d.client) own.plan.ops (plan-own number d.client (seen_of taken) d.draft own.plan d.is)) among)
 one-home c m deltas number taken delta (inr (k, there)) here = inr (contains-listed deltas k delta (OfPut c m) there here)
 
 due-home : (c : List ℕ) (m : Put) (deltas : List (List Op)) (number : ℕ) (taken : List Op) (refused : List (List Op)) → DueInTurn deltas number taken refused → Contains (all_of refused) (OfPut c m) → (m.origin ≡ number) ⊎ Contains (all_of deltas) (OfPut c m)
@@ -99,15 +99,15 @@ module _ (configs : List Config) (event : Event) (out : Out) (old new : Field) (
   abbrev name : ℕ × ℕ
   name = (m.seq, m.origin)
 
-  number : gateway.config.gateway ≡ gateway_of event
-  number = first-number (gateway_of event) i old.gateways gateway (place_of-first (gateway_of event) i old.gateways h.at.0) h.at.1
+  number : gateway.config.gateway ≡ gateway_of_event event
+  number = first-number (gateway_of_event event) i old.gateways gateway (place_of-first (gateway_of_event event) i old.gateways h.at.0) h.at.1
 
   -- no message of this name was anywhere: the gateway that made it would have had it
   not-there : (t : Put) → name ≡ (t.seq, t.origin) → Contains (everything old) (OfPut c t) → ⊥
   not-there t named there =
       let home = field-home configs h.events h.answers old (OfPut c t) h.run there in
-      let origin : t.origin ≡ gateway_of event = ap (λ (n : ℕ × ℕ). n.1) (sym named) ∙ is.is_new.origin ∙ number in
-      let at : IsAt old (gateway_of event) home.0 home.1 = subst (λ (k : ℕ). IsAt old k home.0 home.1) origin home.2 in
+      let origin : t.origin ≡ gateway_of_event event = ap (λ (n : ℕ × ℕ). n.1) (sym named) ∙ is.is_new.origin ∙ number in
+      let at : IsAt old (gateway_of_event event) home.0 home.1 = subst (λ (k : ℕ). IsAt old k home.0 home.1) origin home.2 in
       let place : home.0 ≡ i = same_Some home.0 i (sym at.0 ∙ h.at.0) in
       let same : home.1 ≡ gateway = same_Some home.1 gateway (sym at.1 ∙ ap (slice_get old.gateways) place ∙ h.at.1) in
       none-some t
@@ -122,9 +122,9 @@ module _ (configs : List Config) (event : Event) (out : Out) (old new : Field) (
       elim (are.heard j g place) [
         | inl none ↦ empty none
         | inr first ↦
-            let one : g.config.gateway ≡ gateway_of event = sym own ∙ ap (λ (n : ℕ × ℕ). n.1) (sym named) ∙ is.is_new.origin ∙ number in
-            let there : First (gateway_of event) old.gateways j = subst (λ (m : ℕ). First m old.gateways j) one first in
-            let at : j ≡ i = first-one (gateway_of event) j i old.gateways there (place_of-first (gateway_of event) i old.gateways h.at.0) in
+            let one : g.config.gateway ≡ gateway_of_event event = sym own ∙ ap (λ (n : ℕ × ℕ). n.1) (sym named) ∙ is.is_new.origin ∙ number in
+            let there : First (gateway_of_event event) old.gateways j = subst (λ (m : ℕ). First m old.gateways j) one first in
+            let at : j ≡ i = first-one (gateway_of_event event) j i old.gateways there (place_of-first (gateway_of_event event) i old.gateways h.at.0) in
             let same : gateway ≡ g = same_Some gateway g (sym h.at.1 ∙ ap (slice_get old.gateways) (sym at) ∙ place) in
             empty (due.runs (subst (λ (x : Gateway). x.drive.halted ≡ false) same runs))
       ]

@@ -17,13 +17,13 @@ use Rattle.rep_model.proofs.Thin.{pending_at-reads, pending_at-thin, thin-same}
 use Rattle.sn_local.specs.Seen.{seen_of}
 use Rattle.sn_plan.specs.declared.draft.NewPut.{NewPut}
 use Rattle.sn_plan.specs.declared.plan.Plan.{Plan}
-use Rattle.sn_plan.specs.Flush.{AreFlush}
-use Rattle.sn_plan.specs.Own.{IsOwn, IsOfDraft, unnamed, messages}
+use Rattle.sn_plan.specs.Flush.{HaveNoGap}
+use Rattle.sn_plan.specs.Own.{IsOwnWrite, IsOfDraft, unnamed, new_messages}
 use Rattle.row_laws.proofs.Known.{same-behind}
 use Rattle.row_laws.proofs.Names.{plan-own}
 use Rattle.row_laws.proofs.Stepping.{step-new_put}
 use Rattle.put_laws.proofs.Acked.{none-there}
-use Rattle.put_laws.specs.Puts.{IsOfGateway, IsKept}
+use Rattle.put_laws.specs.Puts.{IsOfGateway, IsWaiting}
 use Rattle.put_laws.proofs.Putting.{of-draft}
 use Rattle.put_laws.proofs.Waiting.{gateway-kept}
 use Rattle.gw_event.specs.Occasions.{Occasion, Datagram, Clock}
@@ -57,17 +57,17 @@ pub record HasMessage (ops : List Op) (p : NewPut) : Type 0 where
 has-more : (op : Op) (ops : List Op) (p : NewPut) → HasMessage ops p → HasMessage (op ∷ ops) p
 has-more op ops p h = record { message = h.message; among = behind_there op (OfPut p.client h.message) ops h.among; says = h.says }
 
-pub message-there : (ops : List Op) (p : NewPut) → Contains (messages ops) p → HasMessage ops p
+pub message-there : (ops : List Op) (p : NewPut) → Contains (new_messages ops) p → HasMessage ops p
 message-there [] p h = absurd (none-there p h)
 message-there (OfSession c stamp counter change ∷ ops) p h = has-more (OfSession c stamp counter change) ops p (message-there ops p h)
 message-there (OfRetain t k ∷ ops) p h = has-more (OfRetain t k) ops p (message-there ops p h)
 message-there (Ack c origin first last ∷ ops) p h = has-more (Ack c origin first last) ops p (message-there ops p h)
 message-there (OfPut c x ∷ ops) p h =
     let m : NewPut = unnamed c x in
-    elim x.retain as (λ b. Contains (cons_option (if b then None else Some m) (messages ops)) p → HasMessage (OfPut c x ∷ ops) p) [
+    elim x.retain as (λ b. Contains (cons_option (if b then None else Some m) (new_messages ops)) p → HasMessage (OfPut c x ∷ ops) p) [
       | true ↦ λ there. has-more (OfPut c x) ops p (message-there ops p there)
       | false ↦ λ there.
-          elim (head_or m p (messages ops) there) [
+          elim (head_or m p (new_messages ops) there) [
             | inl same ↦ subst (HasMessage (OfPut c x ∷ ops)) same (record { message = x; among = head_there (OfPut c x) ops; says = (refl, refl, refl) })
             | inr more ↦ has-more (OfPut c x) ops p (message-there ops p more)
           ]
@@ -79,7 +79,7 @@ read_some : (b : Bool) (o : Option Put) (put : Put) → cond (not b) o None ≡ 
 read_some true o put e = absurd (none-some put e)
 read_some false o put e = e
 
-module _ (g : ℕ) (S : List Op) (plan : Plan) (is : IsOfGateway g S plan) (flush : AreFlush g S) (c : List ℕ) (m : Put) (among : Contains plan.ops (OfPut c m)) where
+module _ (g : ℕ) (S : List Op) (plan : Plan) (is : IsOfGateway g S plan) (flush : HaveNoGap g S) (c : List ℕ) (m : Put) (among : Contains plan.ops (OfPut c m)) where
   abbrev name : ℕ × ℕ
   name = (m.seq, m.origin)
 
@@ -87,13 +87,13 @@ module _ (g : ℕ) (S : List Op) (plan : Plan) (is : IsOfGateway g S plan) (flus
   drafted = of-draft g S plan is
 
   pub plan-origin : m.origin ≡ g
-  plan-origin = All-contains (IsOwn g drafted.client) plan.ops (OfPut c m) (All-from_recursion (IsOwn g drafted.client) plan.ops (plan-own g drafted.client (seen_of S) drafted.draft plan drafted.is)) among
+  plan-origin = All-contains (IsOwnWrite g drafted.client) plan.ops (OfPut c m) (All-from_recursion (IsOwnWrite g drafted.client) plan.ops (plan-own g drafted.client (seen_of S) drafted.draft plan drafted.is)) among
 
   pub plan-new : put_at c S name ≡ None
   plan-new = step-new_put g S plan drafted plan.ops (same_refl plan.ops) flush c name (is_there plan.ops (OfPut c m) among)
 
   kept : pending_at c (S ++ plan.ops) name ≡ Some m
-  kept = All-contains (IsKept (S ++ plan.ops)) plan.ops (OfPut c m) (All-from_recursion (IsKept (S ++ plan.ops)) plan.ops (gateway-kept g S plan is flush)) among
+  kept = All-contains (IsWaiting (S ++ plan.ops)) plan.ops (OfPut c m) (All-from_recursion (IsWaiting (S ++ plan.ops)) plan.ops (gateway-kept g S plan is flush)) among
 
   stands-both : put_at c (S ++ plan.ops) name ≡ Some m
   stands-both = read_some (is_acknowledged c (S ++ plan.ops) name) (put_at c (S ++ plan.ops) name) m (sym (pending_at-reads c (S ++ plan.ops) name) ∙ kept)
@@ -136,7 +136,7 @@ pub record IsPut (old next : Gateway) (delta : List Op) (c : List ℕ) (m : Put)
   pub stands : put_at c delta (m.seq, m.origin) ≡ Some m
   pub taken : next.taken ≡ old.taken ++ delta
 
-module _ (old next : Gateway) (plan : Plan) (is : IsOfGateway old.config.gateway old.taken plan) (flush : AreFlush old.config.gateway old.taken) (told : Option (List Op)) (delta : List Op) (t : IsTaken plan.ops old told delta next) where
+module _ (old next : Gateway) (plan : Plan) (is : IsOfGateway old.config.gateway old.taken plan) (flush : HaveNoGap old.config.gateway old.taken) (told : Option (List Op)) (delta : List Op) (t : IsTaken plan.ops old told delta next) where
   pub put-of-plan : (c : List ℕ) (m : Put) → Contains plan.ops (OfPut c m) → IsPut old next delta c m
   put-of-plan c m among =
       let same = t.delta_of.same in

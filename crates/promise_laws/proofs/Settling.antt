@@ -22,7 +22,7 @@ use Rattle.sn_plan.specs.declared.row.Row.{Row}
 use Rattle.sn_plan.specs.declared.row.Follow.TheVariants as follows
 use Rattle.sn_plan.specs.Bound.{session_of}
 use Rattle.sn_plan.specs.Drafts.{Drafted, nothing, lasting, moved}
-use Rattle.sn_plan.specs.Numbering.{Written, another, taken_at, taken, counted, write, written, start_of, ack_of, planned}
+use Rattle.sn_plan.specs.Numbering.{Written, another, taken_at, taken, counted, write, changes_written, start_of, ack_of, planned}
 use Rattle.sn_plan.specs.Plans.{plan_of, plan_of_puts, plan_without}
 use Rattle.sn_plan.specs.Rows.{row_of, row_lasting, plan_for}
 use Rattle.sn_plan.proofs.Lists.{and_then-some, map-some, all-append, all-weaken, all-map}
@@ -33,7 +33,7 @@ use Rattle.sn_tick.specs.declared.due.Due.{Due}
 use Rattle.sn_tick.specs.declared.due.Due.TheVariants as dues
 use Rattle.sn_tick.specs.Due.{first_due}
 use Rattle.sn_tick.specs.Expiry.{expire_all}
-use Rattle.sn_tick.specs.Ticking.{is_old, dialog_ended, dialogs_ended, needs_timer, timer_begun, cleaned, may_advertise, advertised, published, lost, retried, plan_due, plan_if_due, tick}
+use Rattle.sn_tick.specs.Ticking.{is_old, dialog_ended, dialogs_ended, needs_timer, timer_begun, begin_tick, may_advertise, advertised, published, lost, retry_row, plan_due, plan_if_due, tick}
 use Rattle.row_laws.proofs.Planned.{IsNumbered, planned-parts, parts-more}
 use Rattle.step_laws.proofs.Expiring.{expired-acked}
 use Rattle.step_laws.proofs.Keeping.{fold_keeps}
@@ -83,10 +83,10 @@ module _ (seen : Seen) (A : List ℕ → ℕ → Type 0) where
     write-gives (Take session) w x h r e = taken-gives session w x h r e
     write-gives change w x h r e = counted-gives change w x h r e
 
-    written-ready : (changes : List SessionOp) (w x : Written) → AllByRecursion (IsCarried seen A c) changes → Ready w → written c g changes w ≡ Some x → Ready x
+    written-ready : (changes : List SessionOp) (w x : Written) → AllByRecursion (IsCarried seen A c) changes → Ready w → changes_written c g changes w ≡ Some x → Ready x
     written-ready [] w x all r e = subst Ready (same_Some w x e) r
     written-ready (change ∷ rest) w x all r e =
-        let m = and_then-some (written c g rest) (write c g change w) x e in
+        let m = and_then-some (changes_written c g rest) (write c g change w) x e in
         written-ready rest m.0 x all.1 (write-gives change w m.0 all.0 r m.1) m.2
 
   numbered-settled : (g : ℕ) (seq clock : List ℕ → Option ℕ) (op : Op) → IsNumbered g seq clock op → IsSettled op
@@ -150,7 +150,7 @@ choose-changes : (b : Bool) (x d : Drafted) → x.changes ≡ d.changes → (if 
 choose-changes true x d e = e
 choose-changes false x d e = refl
 
-cleaned-changes : (g : ℕ) (seen : Seen) (local : Local) (now : ℕ) → (cleaned g seen local now).changes ≡ []
+cleaned-changes : (g : ℕ) (seen : Seen) (local : Local) (now : ℕ) → (begin_tick g seen local now).changes ≡ []
 cleaned-changes g seen local now =
     fold_keeps (timer_begun g seen local.timers now) (λ (d : Drafted). d.changes) (λ d c. choose-changes (needs_timer g local.timers c (seen.of c)) (moved (Heard c now) d) d refl) seen.all (dialogs_ended now local.dialogs nothing)
     ∙ fold_keeps (dialog_ended now) (λ (d : Drafted). d.changes) (λ d dialog. choose-changes (is_old now dialog) (moved (EndDialog dialog.request.address) d) d refl) local.dialogs nothing
@@ -169,7 +169,7 @@ module _ (g : ℕ) (predefined : Entries) (seen : Seen) (local : Local) (now : �
   due-settled c dues.Loss e =
       of-settled seen Nobody g plan c (lost seen c (session_of seen c) d)
       (carried-more seen Nobody c (Presence Lost (session_of seen c).duration) (published seen c (session_of seen c).will d) (λ id b. absurd b) (base c)) e
-  due-settled c (dues.Retry a) e = next-settled seen Nobody g plan predefined a now (retried now d c) (base c) e
+  due-settled c (dues.Retry a) e = next-settled seen Nobody g plan predefined a now (retry_row now d c) (base c) e
   due-settled c (dues.Delivery a) e = next-settled seen Nobody g plan predefined a now (row_of follows.Delivery c d) (base c) e
 
   without-settled : (e : Drafted) → Some (plan_without e) ≡ Some plan → AreSettled seen Nobody plan.ops
@@ -186,7 +186,7 @@ module _ (g : ℕ) (predefined : Entries) (seen : Seen) (local : Local) (now : �
 pub tick-brings : (g lifetime advertise : ℕ) (field : List Addr) (predefined : Entries) (seen : Seen) (local : Local) (now : ℕ) (plan : Plan) → tick g lifetime advertise field predefined seen local now ≡ Some plan
     → (c : List ℕ) (id : ℕ) → HasOne c id plan.ops → is_received id (session_of seen c).received ≡ true
 tick-brings g lifetime advertise field predefined seen local now plan e c id h =
-    let d : Drafted = lasting (expires_at lifetime now) (cleaned g seen local now) in
+    let d : Drafted = lasting (expires_at lifetime now) (begin_tick g seen local now) in
     let settled = either-settled g predefined seen local now plan d (cleaned-changes g seen local now) (may_advertise advertise field now local.advertised)
     (advertised g advertise field now d) (first_due g seen local now seen.all) e in
     elim (one-settled seen Nobody c id plan.ops settled h) [ inl had ↦ had | inr none ↦ absurd none ]

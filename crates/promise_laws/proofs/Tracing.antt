@@ -7,7 +7,7 @@ use Rattle.sn_frame.specs.Grammar.{Spells}
 use Rattle.sn_tables.specs.Received.{is_received}
 use Rattle.rep_op.specs.declared.op.Op.{Op}
 use Rattle.rep_op.specs.declared.op.Op.TheVariants.{Session as OfSession}
-use Rattle.rep_op.specs.Sets.{Stands}
+use Rattle.rep_op.specs.Sets.{HasOperation}
 use Rattle.rep_ops.specs.Making.{IsDeltaOf}
 use Rattle.rep_ops.specs.Splitting.{all_of}
 use Rattle.sn_local.specs.declared.config.Addr.{Addr}
@@ -64,14 +64,14 @@ module _ (c : List ℕ) (id : ℕ) where
   -- what a delta of operations has, they have
   of-delta : (ops delta : List Op) → IsDeltaOf ops delta → Brought delta → Brought ops
   of-delta ops delta is (stamp, counter, change, there, brings) =
-      let stands : Stands delta (OfSession c stamp counter change) = delta-stands delta is.delta (OfSession c stamp counter change) there in
+      let stands : HasOperation delta (OfSession c stamp counter change) = delta-stands delta is.delta (OfSession c stamp counter change) there in
       (stamp, counter, change, operation_occurs c ops (stamp, counter) change (sym (is.same.operations_same c (stamp, counter)) ∙ stands), brings)
 
   -- what a peer answers, its set has
   of-answered : (S : List Op) (made : List (List Op)) → Answered S made → Brought (all_of made) → Brought S
   of-answered S made is (stamp, counter, change, there, brings) =
-      let stands : Stands (all_of made) (OfSession c stamp counter change) =
-      All-contains (Stands (all_of made)) (all_of made) (OfSession c stamp counter change) (All-from_recursion (Stands (all_of made)) (all_of made) is.consistent) there in
+      let stands : HasOperation (all_of made) (OfSession c stamp counter change) =
+      All-contains (HasOperation (all_of made)) (all_of made) (OfSession c stamp counter change) (All-from_recursion (HasOperation (all_of made)) (all_of made) is.consistent) there in
       (stamp, counter, change, operation_occurs c S (stamp, counter) change (is.within.operations_in c (stamp, counter) change stands), brings)
 
   -- ---- one event

@@ -23,11 +23,11 @@ use Rattle.gw_answer.specs.declared.out.Out.{Out}
 use Rattle.gw_answer.specs.declared.fault.NodeFault.{NodeFault}
 use Rattle.gw_answer.specs.Answers.{said}
 use Rattle.gw_event.specs.Gateways.{Gateway, with_refused}
-use Rattle.gw_node.specs.Taking.{StandsFor}
+use Rattle.gw_node.specs.Taking.{RecoversTo}
 use Rattle.gw_world.specs.declared.event.Event.{Event}
 use Rattle.gw_world.specs.declared.event.Answer.{Answer}
 use Rattle.gw_world.specs.declared.event.Answer.TheVariants.{Node}
-use Rattle.gw_world.specs.Field.{Field, new_field, IsAt, After, Run, gateway_of}
+use Rattle.gw_world.specs.Field.{Field, new_field, IsAt, After, Run, gateway_of_event}
 
 -- the message waits for its client in the set, or the set has its acknowledgement
 abbrev pub WaitsOrAcknowledged : List ℕ → Put → List Op → Type 0
@@ -39,7 +39,7 @@ WaitsOrAcknowledged c put S =
 abbrev pub IsLeftOf : Gateway → Image → Type 0
 IsLeftOf gateway image =
     (n : ℕ)
-    × StandsFor gateway.config.gateway (with_refused n gateway.taken gateway.refused) [] image
+    × RecoversTo gateway.config.gateway (with_refused n gateway.taken gateway.refused) [] image
 
 -- The message waits for its client at the gateway, or is acknowledged there; and so it is in the
 -- records of whatever a crash leaves of the gateway's disk.
@@ -67,7 +67,7 @@ pub record HasAnswered (configs : List Config) (event : Event) (out : Out) (old 
   pub events : List Event
   pub answers : List Answer
   pub run : Run (new_field configs) events answers old
-  pub at : IsAt old (gateway_of event) i gateway
+  pub at : IsAt old (gateway_of_event event) i gateway
   pub answer : Result (Arc Out Global) NodeFault
   pub says : said answer ≡ Ok out
   pub after : After old event (Node answer) new

@@ -29,12 +29,12 @@ IsAcknowledgedIn field c name =
 
 -- The message of this name waits for the client at the gateway, and the occasion is a cause to
 -- acknowledge it: the frame is, or Delivery is done with the message, or it has expired.
-abbrev pub HasCause : Gateway → Occasion → ℕ → List Send → List ℕ → ℕ × ℕ → Type 0
-HasCause gateway (Datagram from bytes) now sends c name =
+abbrev pub HasAckCause : Gateway → Occasion → ℕ → List Send → List ℕ → ℕ × ℕ → Type 0
+HasAckCause gateway (Datagram from bytes) now sends c name =
     (frame : OfFrame) × IsValue frame × Spells bytes frame
     × IsForCause gateway.config.gateway gateway.config.predefined (seen_of gateway.taken)
     gateway.local from frame now sends c name
-HasCause gateway Clock now sends c name =
+HasAckCause gateway Clock now sends c name =
     IsTimely gateway.config.gateway gateway.config.predefined (seen_of gateway.taken) gateway.local
     now sends c name
 
@@ -49,7 +49,7 @@ pub record Acknowledges (field : Field) (event : Event) (answer : Answer) (c : L
   pub comes : IsStep field event answer gateway occasion moment plan.sends
   pub planned : IsPlan gateway occasion moment (Some plan)
   pub acknowledges : is_acknowledged c plan.ops name ≡ true
-  pub cause : HasCause gateway occasion moment plan.sends c name
+  pub cause : HasAckCause gateway occasion moment plan.sends c name
 
 -- In a run from `start` the event after the first k is a step that acknowledges the message.
 pub record IsWrittenBy (start : Field) (events : List Event) (answers : List Answer) (c : List ℕ)

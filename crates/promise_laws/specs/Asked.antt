@@ -1,7 +1,7 @@
 -- Who gets a publication, and what it is about, in words that the step table does not use.
 use Rattle.std.specs.Prelude.{◌≡◌, ◌⊎◌, ◌<◌, ◌≤◌, ℕ, ◌/◌, ◌%◌, min, List, [], ◌∷◌, length, Some, Contains}
 use Rattle.sn_topic.specs.Matching.{Matches}
-use Rattle.sn_topic.specs.Table.{Entries, name_of}
+use Rattle.sn_topic.specs.Table.{Entries, name_of_id}
 use Rattle.sn_tables.specs.declared.subscriptions.Subscription.{Subscription}
 use Rattle.sn_tables.specs.declared.topics.TopicEntry.{TopicEntry}
 use Rattle.sn_session.specs.declared.presence.Presence.{Presence}
@@ -33,7 +33,7 @@ pub record AsksFor (name : List ℕ) (qos : ℕ) (v : ClientView) : Type 0 where
 abbrev pub IsNameFor : Entries → Session → TopicIdType → ℕ → List ℕ → Type 0
 IsNameFor predefined s kinds.Normal topic name =
     (entry : TopicEntry) × Contains s.topics entry × (entry.id ≡ topic) × (entry.name ≡ name)
-IsNameFor predefined s kinds.Predefined topic name = name_of topic predefined ≡ Some name
+IsNameFor predefined s kinds.Predefined topic name = name_of_id topic predefined ≡ Some name
 IsNameFor predefined s kinds.Short topic name = name ≡ topic / 256 ∷ topic % 256 ∷ []
 IsNameFor predefined s kinds.Reserved topic name = ⊥
 

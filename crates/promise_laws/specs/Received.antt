@@ -12,8 +12,8 @@ use Rattle.sn_local.specs.Bindings.{client_at}
 use Rattle.sn_local.specs.Seen.{seen_of}
 use Rattle.sn_plan.specs.declared.plan.Plan.{Plan}
 use Rattle.sn_plan.specs.Bound.{session_of}
-use Rattle.sn_plan.specs.Own.{messages}
-use Rattle.put_laws.specs.Puts.{IsAnswered, IsPublished}
+use Rattle.sn_plan.specs.Own.{new_messages}
+use Rattle.put_laws.specs.Puts.{IsReplyTo, IsPublished}
 use Rattle.gw_event.specs.Occasions.{Datagram}
 use Rattle.gw_event.specs.Gateways.{Gateway}
 use Rattle.gw_event.specs.Event.{IsPlan}
@@ -36,8 +36,8 @@ pub record AcceptsPublish (gateway : Gateway) (a : Addr) (octets c : List ℕ) (
   pub bound : client_at a gateway.local.bindings ≡ Some c
   pub fresh : is_received id (session_of (seen_of gateway.taken) c).received ≡ false
   pub published : IsPublished gateway.config.predefined (seen_of gateway.taken) gateway.local a
-      flags.bits topic 2 body (messages plan.ops)
-  pub answered : IsAnswered a (frames.PubRec id) plan.sends
+      flags.bits topic 2 body (new_messages plan.ops)
+  pub answered : IsReplyTo a (frames.PubRec id) plan.sends
 
 -- In this field the event is a datagram whose step accepts a PUBLISH of the client with this
 -- message id. It ends with the datagrams of its plan; or the disk failed, and what was refused is

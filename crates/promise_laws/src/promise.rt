@@ -13,7 +13,7 @@ ghost use Rattle.rep_op.specs.declared.op.Put.{Put};
 ghost use Rattle.sn_local.specs.declared.config.Addr.{Addr};
 ghost use Rattle.sn_local.specs.declared.config.Config.{Config};
 ghost use Rattle.sn_local.specs.Seen.{seen_of};
-ghost use Rattle.put_laws.specs.Puts.{HasReceived, IsAnswered};
+ghost use Rattle.put_laws.specs.Puts.{HasReceived, IsReplyTo};
 ghost use Rattle.gw_answer.specs.declared.out.Out.{Out};
 ghost use Rattle.gw_event.specs.Gateways.{Gateway};
 ghost use Rattle.gw_world.specs.declared.event.Event.{Event};
@@ -41,7 +41,7 @@ pub fn nothing_accepted_vanishes()
         → HasAnswered configs (Frame number a octets now) out old new i gateway
         → IsValue (frames.Publish flags topic msg_id body)
         → Spells octets (frames.Publish flags topic msg_id body) → qos_of flags.bits ≡ One
-        → IsAnswered a (frames.PubAck t m 0) out.sends
+        → IsReplyTo a (frames.PubAck t m 0) out.sends
         → IsAccepted gateway a flags.bits topic 1 body out (WaitsUntilAnswered new i) }
     ensures pubrec { (configs : List Config) (old new : Field) (number i : ℕ) (gateway : Gateway)
         (a : Addr) (octets : List ℕ) (now : ℕ) (out : Out) (flags : Flags)
@@ -49,7 +49,7 @@ pub fn nothing_accepted_vanishes()
         → HasAnswered configs (Frame number a octets now) out old new i gateway
         → IsValue (frames.Publish flags topic msg_id body)
         → Spells octets (frames.Publish flags topic msg_id body) → qos_of flags.bits ≡ Two
-        → IsAnswered a (frames.PubRec m) out.sends
+        → IsReplyTo a (frames.PubRec m) out.sends
         → IsAccepted gateway a flags.bits topic 2 body out (WaitsUntilAnswered new i)
         ⊎ HasReceived (seen_of gateway.taken) gateway.local a msg_id }
     ensures made { (configs : List Config) (old new : Field) (event : Event) (i : ℕ)

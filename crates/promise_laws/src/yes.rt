@@ -21,7 +21,7 @@ ghost use Rattle.sn_plan.specs.declared.draft.NewPut.{NewPut};
 ghost use Rattle.sn_publish.specs.declared.meaning.Meant.TheVariants.{Topic};
 ghost use Rattle.sn_publish.specs.Publishing.{publication_meant};
 ghost use Rattle.sn_publish.specs.Recipients.{qos_for};
-ghost use Rattle.put_laws.specs.Puts.{HasReceived, IsAnswered, puts_by_tick, puts_of};
+ghost use Rattle.put_laws.specs.Puts.{HasReceived, IsReplyTo, puts_by_tick, puts_of};
 ghost use Rattle.gw_answer.specs.declared.out.Out.{Out};
 ghost use Rattle.gw_event.specs.Gateways.{Gateway};
 ghost use Rattle.gw_world.specs.declared.event.Event.{Event};
@@ -44,7 +44,7 @@ pub fn accepted_stays()
         → HasAnswered configs (Frame number a octets now) out old new i gateway
         → IsValue (frames.Publish flags topic msg_id body)
         → Spells octets (frames.Publish flags topic msg_id body) → qos_of flags.bits ≡ One
-        → IsAnswered a (frames.PubAck t m 0) out.sends
+        → IsReplyTo a (frames.PubAck t m 0) out.sends
         → IsAccepted gateway a flags.bits topic 1 body out (IsKeptFrom new i) }
     ensures pubrec { (configs : List Config) (old new : Field) (number i : ℕ) (gateway : Gateway)
         (a : Addr) (octets : List ℕ) (now : ℕ) (out : Out) (flags : Flags)
@@ -52,7 +52,7 @@ pub fn accepted_stays()
         → HasAnswered configs (Frame number a octets now) out old new i gateway
         → IsValue (frames.Publish flags topic msg_id body)
         → Spells octets (frames.Publish flags topic msg_id body) → qos_of flags.bits ≡ Two
-        → IsAnswered a (frames.PubRec m) out.sends
+        → IsReplyTo a (frames.PubRec m) out.sends
         → IsAccepted gateway a flags.bits topic 2 body out (IsKeptFrom new i)
         ⊎ HasReceived (seen_of gateway.taken) gateway.local a msg_id }
     ensures frames { (configs : List Config) (old new : Field) (number i : ℕ) (gateway : Gateway)

@@ -24,14 +24,14 @@ use Rattle.sn_local.specs.WillDialogs.{dialog_at}
 use Rattle.sn_plan.specs.declared.row.Row.{Row}
 use Rattle.sn_plan.specs.declared.row.Follow.TheVariants.{Resend}
 use Rattle.sn_plan.specs.Drafts.{Drafted}
-use Rattle.sn_plan.specs.Rows.{row_of, stray}
+use Rattle.sn_plan.specs.Rows.{row_of, unexpected_row}
 use Rattle.sn_flow.specs.declared.accept.GivenWill.{GivenWill}
 use Rattle.sn_flow.specs.declared.accept.GivenWill.TheVariants.{AsItIs, Deleted, Replaced}
 use Rattle.sn_flow.specs.Accept.{cleared, accept, has_no_room}
 use Rattle.sn_flow.specs.Connection.{has_bit, request_of, refusal_of, connect_row, connect}
 use Rattle.sn_flow.specs.WillUpdate.{topic_asked}
-use Rattle.sn_flow.specs.Wills.{congestion, not_supported, will_of, dismissed, concluded, topic_given, topic_row, topic_in, topic_at, message_row, message_in, message_at}
-use Rattle.put_laws.specs.Causes.{by_topic, gives_topic, by_message, gives_message, IsWelcome, BeganClean, IsCause}
+use Rattle.sn_flow.specs.Wills.{congestion, not_supported, will_of, dismissed, concluded, topic_given, topic_row, will_topic_in, will_topic_from, message_row, message_in, will_message_from}
+use Rattle.put_laws.specs.Causes.{client_by_topic, gives_topic, by_message, gives_message, IsWelcome, BeganClean, IsCause}
 use Rattle.put_laws.proofs.Acked.{none-there}
 use Rattle.put_laws.proofs.Quiet.{QuietRow, stray-quiet}
 use Rattle.put_laws.proofs.Fitting.{Cause, FitsRow, quiet-fits, heard-fits, choose-fits}
@@ -125,8 +125,8 @@ module _ (seen : Seen) (local : Local) (a : Addr) (now : ℕ) (frame : Frame)
   dismissed-fits : (request : Request) (code : ℕ) → ByFrame (Some request.client) (dismissed request code)
   dismissed-fits request code = quiet-fits seen (IsCause seen local a frame) (Some request.client) (dismissed request code) (refl, refl, tt)
 
-  stray-fits : (bound : Option (List ℕ)) → ByFrame bound (stray a bound now)
-  stray-fits bound = quiet-fits seen (IsCause seen local a frame) bound (stray a bound now) (stray-quiet seen a bound now)
+  stray-fits : (bound : Option (List ℕ)) → ByFrame bound (unexpected_row a bound now)
+  stray-fits bound = quiet-fits seen (IsCause seen local a frame) bound (unexpected_row a bound now) (stray-quiet seen a bound now)
 
   module _ (dialog : WillDialog) (is : dialog_at a local.dialogs ≡ Some dialog) where
     there : dialog.request.address ≡ a
@@ -149,7 +149,7 @@ module _ (seen : Seen) (local : Local) (a : Addr) (now : ℕ) (frame : Frame)
     topic_row-fits None = concluded-fits Deleted
     topic_row-fits (Some will) = given-fits (topic_asked will)
 
-    topic_in-fits : (bound : Option (List ℕ)) (will : Option Will) (awaited : Awaited) → ByFrame (by_topic bound dialog awaited) (topic_in seen a bound dialog will now awaited)
+    topic_in-fits : (bound : Option (List ℕ)) (will : Option Will) (awaited : Awaited) → ByFrame (client_by_topic bound dialog awaited) (will_topic_in seen a bound dialog will now awaited)
     topic_in-fits bound will Topic =
         heard-fits seen (IsCause seen local a frame) (Some dialog.request.client) bound now (topic_row seen dialog will now) (topic_row-fits will)
     topic_in-fits bound will (Message topic) = stray-fits bound
@@ -164,20 +164,20 @@ module _ (seen : Seen) (local : Local) (a : Addr) (now : ℕ) (frame : Frame)
     message_in-fits bound message (Message topic) =
         heard-fits seen (IsCause seen local a frame) (Some dialog.request.client) bound now (message_row seen dialog.request topic message now) (message_row-fits topic message)
 
-  topic_at-fits : (bound : Option (List ℕ)) (will : Option Will) (dialog : Option WillDialog) → dialog_at a local.dialogs ≡ dialog → ByFrame (gives_topic bound dialog) (topic_at seen a bound dialog will now)
+  topic_at-fits : (bound : Option (List ℕ)) (will : Option Will) (dialog : Option WillDialog) → dialog_at a local.dialogs ≡ dialog → ByFrame (gives_topic bound dialog) (will_topic_from seen a bound dialog will now)
   topic_at-fits bound will None is = stray-fits bound
   topic_at-fits bound will (Some dialog) is = topic_in-fits dialog is bound will dialog.awaited
 
-  message_at-fits : (bound : Option (List ℕ)) (message : List ℕ) (dialog : Option WillDialog) → dialog_at a local.dialogs ≡ dialog → ByFrame (gives_message bound dialog) (message_at seen a bound dialog message now)
+  message_at-fits : (bound : Option (List ℕ)) (message : List ℕ) (dialog : Option WillDialog) → dialog_at a local.dialogs ≡ dialog → ByFrame (gives_message bound dialog) (will_message_from seen a bound dialog message now)
   message_at-fits bound message None is = stray-fits bound
   message_at-fits bound message (Some dialog) is = message_in-fits dialog is bound message dialog.awaited
 
 pub will_topic-fits : (seen : Seen) (local : Local) (a : Addr) (will : Option Will) (now : ℕ)
-    → FitsRow seen (IsCause seen local a (frames.WillTopic will)) (gives_topic (client_at a local.bindings) (dialog_at a local.dialogs)) (topic_at seen a (client_at a local.bindings) (dialog_at a local.dialogs) will now)
+    → FitsRow seen (IsCause seen local a (frames.WillTopic will)) (gives_topic (client_at a local.bindings) (dialog_at a local.dialogs)) (will_topic_from seen a (client_at a local.bindings) (dialog_at a local.dialogs) will now)
 will_topic-fits seen local a will now =
     topic_at-fits seen local a now (frames.WillTopic will) (λ sends c put began told. (began, told)) (client_at a local.bindings) will (dialog_at a local.dialogs) refl
 
 pub will_msg-fits : (seen : Seen) (local : Local) (a : Addr) (message : List ℕ) (now : ℕ)
-    → FitsRow seen (IsCause seen local a (frames.WillMsg message)) (gives_message (client_at a local.bindings) (dialog_at a local.dialogs)) (message_at seen a (client_at a local.bindings) (dialog_at a local.dialogs) message now)
+    → FitsRow seen (IsCause seen local a (frames.WillMsg message)) (gives_message (client_at a local.bindings) (dialog_at a local.dialogs)) (will_message_from seen a (client_at a local.bindings) (dialog_at a local.dialogs) message now)
 will_msg-fits seen local a message now =
     message_at-fits seen local a now (frames.WillMsg message) (λ sends c put began told. (began, told)) (client_at a local.bindings) message (dialog_at a local.dialogs) refl

@@ -10,7 +10,7 @@ use Rattle.rep_model.proofs.Readers.{is_acknowledged_both}
 use Rattle.sn_local.specs.Seen.{Seen}
 use Rattle.sn_plan.specs.declared.plan.Plan.{Plan}
 use Rattle.sn_plan.specs.Drafts.{Drafted}
-use Rattle.sn_plan.specs.Numbering.{numbered, written, start_of, ack_of, plan_with, rest_of, planned}
+use Rattle.sn_plan.specs.Numbering.{numbered, changes_written, start_of, ack_of, plan_with, rest_of, planned}
 use Rattle.sn_plan.specs.Plans.{plan_of, plan_of_puts}
 use Rattle.sn_plan.proofs.Lists.{and_then-some, map-some, all-weaken}
 use Rattle.sn_plan.proofs.Made.{for_nobody}
@@ -75,7 +75,7 @@ module _ (g : ℕ) (c : List ℕ) (seen : Seen) (d : Drafted) (plan : Plan) (pla
 pub plan-sends : (g : ℕ) (c : List ℕ) (seen : Seen) (d : Drafted) (plan : Plan) → plan_of g c seen d ≡ Some plan → plan.sends ≡ d.sends
 unfolding planned
 plan-sends g c seen d plan e =
-    let m = and_then-some (rest_of g c (λ e. seen.seq e g) seen.clock d) (written c g d.changes (start_of g (seen.of c) (seen.epoch c))) plan e in
+    let m = and_then-some (rest_of g c (λ e. seen.seq e g) seen.clock d) (changes_written c g d.changes (start_of g (seen.of c) (seen.epoch c))) plan e in
     let n = map-some (plan_with d) (numbered g c (λ e. seen.seq e g) seen.clock d (m.0.ops ++ map (ack_of c) d.acks)) plan m.2 in
     ap (λ (p : Plan). p.sends) (sym n.2)
 

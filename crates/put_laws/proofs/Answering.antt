@@ -21,9 +21,9 @@ use Rattle.sn_plan.specs.Drafts.{Drafted, nothing}
 use Rattle.sn_exchange.specs.declared.peer.Peer.{Peer}
 use Rattle.sn_exchange.specs.Exchanges.{same_name, message_of, open_exchange}
 use Rattle.sn_exchange.specs.Following.{peer_at}
-use Rattle.sn_deliver.specs.Acknowledging.{same_phase, if_awaits, awaiting, put_of, put_awaiting, done, entry_published, forgotten, puback_of, is_at_two, awaiting_pubrec, pubrec_again, pubrec_of, pubcomp_of, registered, regack_of}
-use Rattle.sn_deliver.specs.Serving.{ack_of}
-use Rattle.put_laws.specs.Causes.{AnswersFor, IsRefusal, IsCause}
+use Rattle.sn_deliver.specs.Acknowledging.{same_phase, if_awaits, awaiting, put_of_exchange, put_awaiting, done, entry_published, forgotten, puback_of, is_at_two, awaiting_pubrec, pubrec_again, pubrec_of, pubcomp_of, id_known, regack_of}
+use Rattle.sn_deliver.specs.Serving.{ack_row}
+use Rattle.put_laws.specs.Causes.{AnswersFor, IsRefusalCode, IsCause}
 use Rattle.put_laws.proofs.Quiet.{QuietRow}
 use Rattle.put_laws.proofs.Fitting.{AreCaused, FitsRow, none-caused, one-caused, choose-caused}
 
@@ -62,7 +62,7 @@ found-there test (put ∷ rest) =
     ] refl
 
 -- a code that is neither 0 nor 1 refuses
-refuses : (code : ℕ) → (code == 0) ≡ false → (code == 1) ≡ false → IsRefusal code
+refuses : (code : ℕ) → (code == 0) ≡ false → (code == 1) ≡ false → IsRefusalCode code
 refuses code h k =
     let one = eqb-false code 0 h in
     let two = eqb-false code 1 k in
@@ -101,10 +101,10 @@ module _ (seen : Seen) (local : Local) (a : Addr) (c : List ℕ) where
   found-answered phase msg_id x is None h = tt
   found-answered phase msg_id x is (Some put) h = (h.0, (x, is.0, is.1, is.2, sym (same_name-true (name_of put) (message_of x) h.1)))
 
-  put-answered : (phase : Phase) (msg_id : ℕ) (o : Option Exchange) → IfSome o (IsAwaited phase msg_id) → IfSome (put_of pending o) (IsAnswered phase msg_id)
+  put-answered : (phase : Phase) (msg_id : ℕ) (o : Option Exchange) → IfSome o (IsAwaited phase msg_id) → IfSome (put_of_exchange pending o) (IsAnswered phase msg_id)
   put-answered phase msg_id None h = tt
   put-answered phase msg_id (Some x) h =
-      found-answered phase msg_id x h (put_of pending (Some x)) (found-there (λ put. same_name (name_of put) (message_of x)) pending)
+      found-answered phase msg_id x h (put_of_exchange pending (Some x)) (found-there (λ put. same_name (name_of put) (message_of x)) pending)
 
   awaiting-answered : (phase : Phase) (msg_id : ℕ) → IfSome (put_awaiting s pending phase msg_id) (IsAnswered phase msg_id)
   awaiting-answered phase msg_id = put-answered phase msg_id (awaiting s pending phase msg_id) (awaiting-open phase msg_id)
@@ -115,7 +115,7 @@ module _ (seen : Seen) (local : Local) (a : Addr) (c : List ℕ) where
     abbrev ByPubAck : Drafted → Type 0
     ByPubAck d = AreCaused seen (IsCause seen local a (frames.PubAck topic_id msg_id code)) c d
 
-    done-puback : (put : Put) → IsAnswered Published msg_id put → ((code ≡ 0) × (put.qos ≡ 1)) ⊎ IsRefusal code → ByPubAck (done s put)
+    done-puback : (put : Put) → IsAnswered Published msg_id put → ((code ≡ 0) × (put.qos ≡ 1)) ⊎ IsRefusalCode code → ByPubAck (done s put)
     done-puback put h why = one-caused seen (IsCause seen local a (frames.PubAck topic_id msg_id code)) c (done s put) put h.0 refl (h.1, why)
 
     none-puback : (d : Drafted) → d.acks ≡ [] → ByPubAck d
@@ -124,7 +124,7 @@ module _ (seen : Seen) (local : Local) (a : Addr) (c : List ℕ) where
     either-puback : (b : Bool) (x y : Drafted) → (b ≡ true → ByPubAck x) → (b ≡ false → ByPubAck y) → ByPubAck (if b then x else y)
     either-puback b x y h k = choose-caused seen (IsCause seen local a (frames.PubAck topic_id msg_id code)) c b x y h k
 
-    forgotten-puback : (put : Put) (entry : Option TopicEntry) → IsAnswered Published msg_id put → IsRefusal code → ByPubAck (forgotten s put entry)
+    forgotten-puback : (put : Put) (entry : Option TopicEntry) → IsAnswered Published msg_id put → IsRefusalCode code → ByPubAck (forgotten s put entry)
     forgotten-puback put None h why = done-puback put h (inr why)
     forgotten-puback put (Some entry) h why = none-puback (forgotten s put (Some entry)) refl
 
@@ -153,9 +153,9 @@ module _ (seen : Seen) (local : Local) (a : Addr) (c : List ℕ) where
     either-regack : (b : Bool) (x y : Drafted) → (b ≡ true → ByRegAck x) → (b ≡ false → ByRegAck y) → ByRegAck (if b then x else y)
     either-regack b x y h k = choose-caused seen (IsCause seen local a (frames.RegAck topic_id msg_id code)) c b x y h k
 
-    registered-regack : (entry : Option TopicEntry) → ByRegAck (registered s entry)
-    registered-regack None = none-regack (registered s None) refl
-    registered-regack (Some entry) = none-regack (registered s (Some entry)) refl
+    registered-regack : (entry : Option TopicEntry) → ByRegAck (id_known s entry)
+    registered-regack None = none-regack (id_known s None) refl
+    registered-regack (Some entry) = none-regack (id_known s (Some entry)) refl
 
     regack_of-caused : (put : Option Put) → IfSome put (IsAnswered Registering msg_id) → ByRegAck (regack_of s code put)
     regack_of-caused None h = none-regack nothing refl
@@ -188,9 +188,9 @@ module _ (seen : Seen) (local : Local) (a : Addr) (c : List ℕ) where
           | false ↦ λ _. tt
         ] refl
 
-    exchange-two : (o : Option Exchange) → IfSome o (IsAwaited Published msg_id) → IfSome {T = Exchange} (if is_at_two (put_of pending o) then o else None) IsOfTwo
+    exchange-two : (o : Option Exchange) → IfSome o (IsAwaited Published msg_id) → IfSome {T = Exchange} (if is_at_two (put_of_exchange pending o) then o else None) IsOfTwo
     exchange-two None h = tt
-    exchange-two (Some x) h = found-two x h (put_of pending (Some x)) (found-there (λ put. same_name (name_of put) (message_of x)) pending)
+    exchange-two (Some x) h = found-two x h (put_of_exchange pending (Some x)) (found-there (λ put. same_name (name_of put) (message_of x)) pending)
 
     none-pubrec : (peer : Peer) (x : Option Exchange) → ByPubRec (pubrec_again peer msg_id x)
     none-pubrec peer None = none-caused seen (IsCause seen local a (frames.PubRec msg_id)) c (pubrec_again peer msg_id None) refl
@@ -212,19 +212,19 @@ module _ (seen : Seen) (local : Local) (a : Addr) (c : List ℕ) where
 
 module _ (p : Entries) (seen : Seen) (local : Local) (a : Addr) (now : ℕ) where
   pub puback-fits : (topic_id msg_id code : ℕ) (bound : Option (List ℕ))
-      → FitsRow seen (IsCause seen local a (frames.PubAck topic_id msg_id code)) bound (ack_of p seen a bound (frames.PubAck topic_id msg_id code) now)
+      → FitsRow seen (IsCause seen local a (frames.PubAck topic_id msg_id code)) bound (ack_row p seen a bound (frames.PubAck topic_id msg_id code) now)
   puback-fits topic_id msg_id code None = tt
   puback-fits topic_id msg_id code (Some c) = (refl, puback-caused seen local a c topic_id msg_id code p, tt)
 
   pub regack-fits : (topic_id msg_id code : ℕ) (bound : Option (List ℕ))
-      → FitsRow seen (IsCause seen local a (frames.RegAck topic_id msg_id code)) bound (ack_of p seen a bound (frames.RegAck topic_id msg_id code) now)
+      → FitsRow seen (IsCause seen local a (frames.RegAck topic_id msg_id code)) bound (ack_row p seen a bound (frames.RegAck topic_id msg_id code) now)
   regack-fits topic_id msg_id code None = tt
   regack-fits topic_id msg_id code (Some c) = (refl, regack-caused seen local a c topic_id msg_id code, tt)
 
-  pub pubrec-fits : (msg_id : ℕ) (bound : Option (List ℕ)) → FitsRow seen (IsCause seen local a (frames.PubRec msg_id)) bound (ack_of p seen a bound (frames.PubRec msg_id) now)
+  pub pubrec-fits : (msg_id : ℕ) (bound : Option (List ℕ)) → FitsRow seen (IsCause seen local a (frames.PubRec msg_id)) bound (ack_row p seen a bound (frames.PubRec msg_id) now)
   pubrec-fits msg_id None = tt
   pubrec-fits msg_id (Some c) = (refl, pubrec-caused seen local a c msg_id (peer_at a c now), tt)
 
-  pub pubcomp-quiet : (msg_id : ℕ) (bound : Option (List ℕ)) → QuietRow seen bound (ack_of p seen a bound (frames.PubComp msg_id) now)
+  pub pubcomp-quiet : (msg_id : ℕ) (bound : Option (List ℕ)) → QuietRow seen bound (ack_row p seen a bound (frames.PubComp msg_id) now)
   pubcomp-quiet msg_id None = tt
   pubcomp-quiet msg_id (Some c) = (refl, pubcomp-acks seen local a c (awaiting (session_of seen c) (seen.of c).pending Released msg_id), tt)

@@ -11,7 +11,7 @@ use Rattle.sn_plan.specs.declared.row.Follow.{Follow}
 use Rattle.sn_plan.specs.declared.row.Row.{Row}
 use Rattle.sn_plan.specs.Bound.{session_of}
 use Rattle.sn_plan.specs.Drafts.{Drafted, moved, session_after}
-use Rattle.sn_plan.specs.Rows.{heard_row}
+use Rattle.sn_plan.specs.Rows.{row_with_timer}
 use Rattle.put_laws.proofs.Acked.{none-there}
 use Rattle.put_laws.proofs.Grown.{IsServed}
 use Rattle.put_laws.proofs.Quiet.{QuietFor, QuietRow}
@@ -63,7 +63,7 @@ module _ (seen : Seen) (C : Cause) where
     moved-fits None change d follow h = tt
     moved-fits (Some c) change d follow h = h
 
-    pub heard-fits : (bound : Option (List ℕ)) (now : ℕ) (row : Row) → FitsRow seen C sender row → FitsRow seen C sender (heard_row bound now row)
+    pub heard-fits : (bound : Option (List ℕ)) (now : ℕ) (row : Row) → FitsRow seen C sender row → FitsRow seen C sender (row_with_timer bound now row)
     heard-fits None now row h = h
     heard-fits (Some c) now row h = moved-fits row.client (Heard c now) row.draft row.follow h
 

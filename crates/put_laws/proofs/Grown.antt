@@ -26,7 +26,7 @@ use Rattle.sn_exchange.specs.declared.form.Form.{Form}
 use Rattle.sn_exchange.specs.declared.peer.Peer.{Peer}
 use Rattle.sn_exchange.specs.Forms.{form_of, form_again, publication}
 use Rattle.sn_exchange.specs.Exchanges.{is_left, left, put_left, message_of, open_exchange, is_served, is_awake}
-use Rattle.sn_exchange.specs.Delivery.{Stop, id_to_tell, begun, register_first, deliver_by, none_left, and_then, deliver, deliver_left, deliver_if}
+use Rattle.sn_exchange.specs.Delivery.{Stop, id_to_tell, exchange_begun, register_first, deliver_by, none_left, and_then, deliver, deliver_left, deliver_if}
 use Rattle.sn_exchange.specs.Resending.{register_by, register_again, publish_by, publish_again, resend_in, resend_if}
 use Rattle.sn_exchange.specs.Following.{followed_by}
 use Rattle.step_laws.specs.Laws.{IsOfOneDone}
@@ -97,7 +97,7 @@ module _ (predefined : Entries) (peer : Peer) (s : Session) where
   form_stays put None d = register_stays put (id_to_tell s put.topic) d
   form_stays put (Some form) d =
       choose_stop (put.qos == 0) (false, acked (name_of put) (sent peer.address (publication false put 0 form) d))
-      (true, begun peer s put Published (publication false put s.next_id form) d) d
+      (true, exchange_begun peer s put Published (publication false put s.next_id form) d) d
       (λ m there. more_sent d (record { to = peer.address; bytes = spelling (publication false put 0 form) }) m there)
       (λ m there. more_sent d (record { to = peer.address; bytes = spelling (publication false put s.next_id form) }) m there)
 

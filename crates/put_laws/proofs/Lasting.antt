@@ -20,7 +20,7 @@ use Rattle.sn_tick.specs.declared.due.Due.{Due}
 use Rattle.sn_tick.specs.declared.due.Due.TheVariants.{Expiry, Loss, Retry, Delivery}
 use Rattle.sn_tick.specs.Due.{first_due}
 use Rattle.sn_tick.specs.Expiry.{expire_all}
-use Rattle.sn_tick.specs.Ticking.{cleaned, may_advertise, advertised, lost, retried, plan_due, plan_if_due, tick}
+use Rattle.sn_tick.specs.Ticking.{begin_tick, may_advertise, advertised, lost, retry_row, plan_due, plan_if_due, tick}
 use Rattle.row_laws.proofs.Moments.{AllHave, plan-moments, nobody-moments}
 use Rattle.step_laws.proofs.Drafting.{followed_for_expires, expired_expires}
 
@@ -49,7 +49,7 @@ module _ (g : ℕ) (predefined : Entries) (seen : Seen) (local : Local) (now : �
   due-moments c Expiry is =
       subst (λ (moment : ℕ). AllHave moment plan.ops) (expired_expires seen local now c d) (plan-moments g c seen (expire_all seen local now c d) plan is)
   due-moments c Loss is = plan-moments g c seen (lost seen c (session_of seen c) d) plan is
-  due-moments c (Retry a) is = next-moments g seen predefined a now (retried now d c) plan is
+  due-moments c (Retry a) is = next-moments g seen predefined a now (retry_row now d c) plan is
   due-moments c (Delivery a) is = next-moments g seen predefined a now (row_of follows.Delivery c d) plan is
 
   without-moments : (e : Drafted) → Some (plan_without e) ≡ Some plan → AllHave d.expires plan.ops
@@ -67,7 +67,7 @@ module _ (g : ℕ) (predefined : Entries) (seen : Seen) (local : Local) (now : �
 pub tick-moments : (g lifetime advertise : ℕ) (field : List Addr) (predefined : Entries) (seen : Seen) (local : Local) (now : ℕ) (plan : Plan)
     → tick g lifetime advertise field predefined seen local now ≡ Some plan → AllHave (expires_at lifetime now) plan.ops
 tick-moments g lifetime advertise field predefined seen local now plan is =
-    let d : Drafted = lasting (expires_at lifetime now) (cleaned g seen local now) in
+    let d : Drafted = lasting (expires_at lifetime now) (begin_tick g seen local now) in
     either-moments g predefined seen local now plan d (may_advertise advertise field now local.advertised)
     (advertised g advertise field now d) (first_due g seen local now seen.all) is
 

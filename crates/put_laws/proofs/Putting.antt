@@ -24,7 +24,7 @@ use Rattle.sn_plan.specs.Asking.{retain_asked}
 use Rattle.sn_plan.specs.Bound.{session_of}
 use Rattle.sn_plan.specs.Drafts.{Drafted, lasting}
 use Rattle.sn_plan.specs.Numbering.{planned}
-use Rattle.sn_plan.specs.Own.{IsOneEach, IsOfDraft, messages}
+use Rattle.sn_plan.specs.Own.{IsOneEach, IsOfDraft, new_messages}
 use Rattle.sn_plan.specs.Others.{other}
 use Rattle.sn_plan.specs.Plans.{plan_without}
 use Rattle.sn_plan.specs.Rows.{plan_for, row_of, row_lasting}
@@ -40,7 +40,7 @@ use Rattle.sn_tick.specs.declared.due.Due.{Due}
 use Rattle.sn_tick.specs.declared.due.Due.TheVariants.{Expiry, Loss, Retry, Delivery}
 use Rattle.sn_tick.specs.Due.{first_due}
 use Rattle.sn_tick.specs.Expiry.{expire_all}
-use Rattle.sn_tick.specs.Ticking.{cleaned, may_advertise, advertised, will_puts, lost, retried, plan_due, plan_if_due, tick}
+use Rattle.sn_tick.specs.Ticking.{begin_tick, may_advertise, advertised, will_puts, lost, retry_row, plan_due, plan_if_due, tick}
 use Rattle.row_laws.proofs.Drafting.{connect-made, disconnect-made, will_topic-made, will_msg-made, will_topic_update-made, will_msg_update-made, register-made, subscribe-puts, unsubscribe-made, other-made}
 use Rattle.row_laws.proofs.Waiting.{plan-messages}
 use Rattle.step_laws.proofs.Drafting.{followed_for_puts, pubrel_of_made, ack_of_made, wake_made, cleaned_made, expired_made, step-drafted, tick-drafted}
@@ -108,18 +108,18 @@ row-puts g predefined seen local a frame now = no_puts (other g local a frame no
 -- ---- what a plan makes
 
 module _ (g : ℕ) (seen : Seen) where
-  for-messages : (d : Drafted) (client : Option (List ℕ)) (plan : Plan) → plan_for g seen d client ≡ Some plan → messages plan.ops ≡ d.puts
+  for-messages : (d : Drafted) (client : Option (List ℕ)) (plan : Plan) → plan_for g seen d client ≡ Some plan → new_messages plan.ops ≡ d.puts
   unfolding planned
   for-messages d None plan is = plan-messages g [] seen (for_nobody d) plan is
   for-messages d (Some c) plan is = plan-messages g c seen d plan is
 
-  next-messages : (predefined : Entries) (a : Addr) (now : ℕ) (row : Row) (plan : Plan) → deliver_next g predefined seen a now row ≡ Some plan → messages plan.ops ≡ row.draft.puts
+  next-messages : (predefined : Entries) (a : Addr) (now : ℕ) (row : Row) (plan : Plan) → deliver_next g predefined seen a now row ≡ Some plan → new_messages plan.ops ≡ row.draft.puts
   next-messages predefined a now row plan is =
       for-messages (followed_for predefined seen a now row.draft row.follow row.client) row.client plan is
       ∙ followed_for_puts predefined seen a now row.draft row.follow row.client
 
 pub step-messages : (g lifetime : ℕ) (predefined : Entries) (seen : Seen) (local : Local) (a : Addr) (frame : Frame) (now : ℕ) (plan : Plan)
-    → step g lifetime predefined seen local a frame now ≡ Some plan → messages plan.ops ≡ puts_of predefined seen local a frame
+    → step g lifetime predefined seen local a frame now ≡ Some plan → new_messages plan.ops ≡ puts_of predefined seen local a frame
 unfolding step
 step-messages g lifetime predefined seen local a frame now plan is =
     next-messages g seen predefined a now (row_lasting (expires_at lifetime now) (row_for g predefined seen local a frame now)) plan is
@@ -128,29 +128,29 @@ step-messages g lifetime predefined seen local a frame now plan is =
 -- ---- a tick
 
 module _ (g : ℕ) (predefined : Entries) (seen : Seen) (local : Local) (now : ℕ) (plan : Plan) (d : Drafted) (none : d.puts ≡ []) where
-  lost-messages : (c : List ℕ) (due : Due) → plan_due g predefined seen local now d c due ≡ Some plan → messages plan.ops ≡ puts_lost seen c due
+  lost-messages : (c : List ℕ) (due : Due) → plan_due g predefined seen local now d c due ≡ Some plan → new_messages plan.ops ≡ puts_lost seen c due
   lost-messages c Expiry is =
       plan-messages g c seen (expire_all seen local now c d) plan is
       ∙ (ap (λ (m : Made). m.0) (expired_made seen local now c d) ∙ none)
   lost-messages c Loss is =
       plan-messages g c seen (lost seen c (session_of seen c) d) plan is
       ∙ ap (λ (puts : List NewPut). puts ++ will_puts seen c (session_of seen c).will) none
-  lost-messages c (Retry a) is = next-messages g seen predefined a now (retried now d c) plan is ∙ none
+  lost-messages c (Retry a) is = next-messages g seen predefined a now (retry_row now d c) plan is ∙ none
   lost-messages c (Delivery a) is = next-messages g seen predefined a now (row_of follows.Delivery c d) plan is ∙ none
 
-  due-messages : (found : Option (List ℕ × Due)) → plan_if_due g predefined seen local now d found ≡ Some plan → messages plan.ops ≡ puts_due seen found
-  due-messages None is = ap (λ (p : Plan). messages p.ops) (sym (same_Some (plan_without d) plan is))
+  due-messages : (found : Option (List ℕ × Due)) → plan_if_due g predefined seen local now d found ≡ Some plan → new_messages plan.ops ≡ puts_due seen found
+  due-messages None is = ap (λ (p : Plan). new_messages p.ops) (sym (same_Some (plan_without d) plan is))
   due-messages (Some found) is = lost-messages found.0 found.1 is
 
   either-messages : (b : Bool) (told : Drafted) (found : Option (List ℕ × Due)) → (if b then Some (plan_without told) else plan_if_due g predefined seen local now d found) ≡ Some plan
-      → messages plan.ops ≡ (if b then [] else puts_due seen found)
-  either-messages true told found is = ap (λ (p : Plan). messages p.ops) (sym (same_Some (plan_without told) plan is))
+      → new_messages plan.ops ≡ (if b then [] else puts_due seen found)
+  either-messages true told found is = ap (λ (p : Plan). new_messages p.ops) (sym (same_Some (plan_without told) plan is))
   either-messages false told found is = due-messages found is
 
 pub tick-messages : (g lifetime advertise : ℕ) (field : List Addr) (predefined : Entries) (seen : Seen) (local : Local) (now : ℕ) (plan : Plan)
-    → tick g lifetime advertise field predefined seen local now ≡ Some plan → messages plan.ops ≡ puts_by_tick g advertise field seen local now
+    → tick g lifetime advertise field predefined seen local now ≡ Some plan → new_messages plan.ops ≡ puts_by_tick g advertise field seen local now
 tick-messages g lifetime advertise field predefined seen local now plan is =
-    let d : Drafted = lasting (expires_at lifetime now) (cleaned g seen local now) in
+    let d : Drafted = lasting (expires_at lifetime now) (begin_tick g seen local now) in
     either-messages g predefined seen local now plan d (no_puts d (cleaned_made g seen local now)) (may_advertise advertise field now local.advertised)
     (advertised g advertise field now d) (first_due g seen local now seen.all) is
 
@@ -160,7 +160,7 @@ pub of-draft : (g : ℕ) (S : List Op) (plan : Plan) → IsOfGateway g S plan �
 of-draft g S plan (inl (lifetime, predefined, local, a, frame, now, is)) = step-drafted g lifetime predefined S local a frame now plan is
 of-draft g S plan (inr (lifetime, advertise, field, predefined, local, now, is)) = tick-drafted g lifetime advertise field predefined S local now plan is
 
-pub gateway-once : (g : ℕ) (S : List Op) (plan : Plan) → IsOfGateway g S plan → IsOneEach (messages plan.ops)
+pub gateway-once : (g : ℕ) (S : List Op) (plan : Plan) → IsOfGateway g S plan → IsOneEach (new_messages plan.ops)
 gateway-once g S plan is =
     let h = of-draft g S plan is in
     subst IsOneEach (sym (plan-messages g h.client (seen_of S) h.draft plan h.is)) h.apart.one_each

@@ -27,7 +27,7 @@ use Rattle.sn_plan.specs.Asking.{retain_asked}
 use Rattle.sn_plan.specs.Bound.{bound_to, session_of}
 use Rattle.sn_plan.specs.Drafts.{Drafted, nothing, changed, changed_if, moved, session_after}
 use Rattle.sn_plan.specs.Others.{other}
-use Rattle.sn_plan.specs.Rows.{row_of, heard_row, stray}
+use Rattle.sn_plan.specs.Rows.{row_of, row_with_timer, unexpected_row}
 use Rattle.sn_flow.specs.Connection.{leave, fall_asleep, disconnect_draft, disconnect_of}
 use Rattle.sn_flow.specs.Wills.{topic_update_of, message_update_of}
 use Rattle.sn_subscribe.specs.Handing.{waiting_for}
@@ -37,7 +37,7 @@ use Rattle.sn_publish.specs.declared.meaning.Meant.TheVariants.{Topic, Refused}
 use Rattle.sn_publish.specs.Publishing.{publication_meant, publish_at, publish_meant, release}
 use Rattle.sn_exchange.specs.Exchanges.{is_served}
 use Rattle.sn_deliver.specs.Serving.{publish_of, publish_in_at, pubrel_of}
-use Rattle.sn_deliver.specs.Waking.{claimed, answered, has_nothing, woken_by, woken_if, woken, wake_of, wake}
+use Rattle.sn_deliver.specs.Waking.{claimed, ping_answered, has_nothing, woken_by, woken_if, woken, wake_of, wake}
 use Rattle.sn_plan.proofs.Lists.{fold_one_more}
 use Rattle.row_laws.proofs.Keeping.{of_register, of_subscribe, of_unsubscribe, of_will_topic_update, of_will_msg_update}
 use Rattle.put_laws.proofs.Grown.{IsServed}
@@ -54,11 +54,11 @@ moved-quiet : (seen : Seen) (sender client : Option (List ℕ)) (change : LocalC
 moved-quiet seen sender None change d follow h = tt
 moved-quiet seen sender (Some c) change d follow h = h
 
-heard-quiet : (seen : Seen) (sender bound : Option (List ℕ)) (now : ℕ) (row : Row) → QuietRow seen sender row → QuietRow seen sender (heard_row bound now row)
+heard-quiet : (seen : Seen) (sender bound : Option (List ℕ)) (now : ℕ) (row : Row) → QuietRow seen sender row → QuietRow seen sender (row_with_timer bound now row)
 heard-quiet seen sender None now row h = h
 heard-quiet seen sender (Some c) now row h = moved-quiet seen sender row.client (Heard c now) row.draft row.follow h
 
-pub stray-quiet : (seen : Seen) (a : Addr) (bound : Option (List ℕ)) (now : ℕ) → QuietRow seen bound (stray a bound now)
+pub stray-quiet : (seen : Seen) (a : Addr) (bound : Option (List ℕ)) (now : ℕ) → QuietRow seen bound (unexpected_row a bound now)
 stray-quiet seen a None now = tt
 stray-quiet seen a (Some c) now = (refl, refl, tt)
 
@@ -160,9 +160,9 @@ module _ (seen : Seen) (a : Addr) (now : ℕ) where
     woken_by-quiet : (state : State) → s.presence ≡ state → QuietRow seen (Some c) (woken_by a c s idle d state)
     woken_by-quiet Active is = (refl, none, tt)
     woken_by-quiet Asleep is =
-        choose-row seen idle (Some c) (row_of follows.Nothing c (answered a d)) (row_of follows.Resend c (changed (Presence Awake s.duration) d)) (refl, none, tt) (refl, none, awake-served)
+        choose-row seen idle (Some c) (row_of follows.Nothing c (ping_answered a d)) (row_of follows.Resend c (changed (Presence Awake s.duration) d)) (refl, none, tt) (refl, none, awake-served)
     woken_by-quiet Awake is =
-        choose-row seen idle (Some c) (row_of follows.Nothing c (answered a (changed (Presence Asleep s.duration) d))) (row_of follows.Resend c d) (refl, none, tt)
+        choose-row seen idle (Some c) (row_of follows.Nothing c (ping_answered a (changed (Presence Asleep s.duration) d))) (row_of follows.Resend c d) (refl, none, tt)
         (refl, none, ap (λ (x : Session). is_served x.presence) kept ∙ ap is_served is)
     woken_by-quiet Disconnected is = tt
     woken_by-quiet Lost is = tt
@@ -184,6 +184,6 @@ module _ (seen : Seen) (a : Addr) (now : ℕ) where
 
   pub wake-quiet : (g : ℕ) (local : Local) (c : List ℕ) → QuietRow seen (if length c == 0 then client_at a local.bindings else Some c) (wake g seen local a c now)
   wake-quiet g local c =
-      choose-both seen (length c == 0) (client_at a local.bindings) (Some c) (wake_of g seen a (client_at a local.bindings) now) (heard_row (client_at a local.bindings) now (woken g seen a c now))
+      choose-both seen (length c == 0) (client_at a local.bindings) (Some c) (wake_of g seen a (client_at a local.bindings) now) (row_with_timer (client_at a local.bindings) now (woken g seen a c now))
       (wake_of-quiet g (client_at a local.bindings))
       (heard-quiet seen (Some c) (client_at a local.bindings) now (woken g seen a c now) (woken_if-quiet g c (seen.of c).session refl))

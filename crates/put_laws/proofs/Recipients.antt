@@ -7,7 +7,7 @@ use Rattle.sn_local.specs.Seen.{Seen}
 use Rattle.sn_plan.specs.declared.draft.NewPut.{NewPut}
 use Rattle.sn_publish.specs.Recipients.{qos_for, message_for, puts_among, puts_for, is_another, puts_of_will}
 use Rattle.put_laws.proofs.Acked.{none-there}
-use Rattle.put_laws.specs.Puts.{IsAmong}
+use Rattle.put_laws.specs.Puts.{IsAmongRecipients}
 
 pub head_there : {X : Type 0} (x : X) (xs : List X) → Contains (x ∷ xs) x
 head_there x xs = Contains-append_left (x ∷ []) xs x (Contains-push [] x)
@@ -45,7 +45,7 @@ module _ (seen : Seen) (topic : List ℕ) (qos : ℕ) (body : List ℕ) where
       ]
 
   abbrev IsFor : List (List ℕ) → NewPut → Type 0
-  IsFor cs p = IsAmong seen cs topic qos body p
+  IsFor cs p = IsAmongRecipients seen cs topic qos body p
 
   for-more : (d : List ℕ) (rest : List (List ℕ)) (p : NewPut) → IsFor rest p → IsFor (d ∷ rest) p
   for-more d rest p h = (behind_there d p.client rest h.0, h.1, h.2, h.3)
@@ -74,10 +74,10 @@ module _ (seen : Seen) (topic : List ℕ) (qos : ℕ) (body : List ℕ) where
   )
 
 pub for-recipients : (seen : Seen) (topic : List ℕ) (qos : ℕ) (body : List ℕ) (p : NewPut)
-    → (Contains (puts_for seen topic qos body) p → IsAmong seen seen.all topic qos body p) × (IsAmong seen seen.all topic qos body p → Contains (puts_for seen topic qos body) p)
+    → (Contains (puts_for seen topic qos body) p → IsAmongRecipients seen seen.all topic qos body p) × (IsAmongRecipients seen seen.all topic qos body p → Contains (puts_for seen topic qos body) p)
 for-recipients seen topic qos body p = for-among seen topic qos body seen.all p
 
 pub for-will : (seen : Seen) (c : List ℕ) (will : Will) (p : NewPut)
-    → (Contains (puts_of_will seen c will) p → IsAmong seen (filter (is_another c) seen.all) will.topic will.qos will.message p)
-    × (IsAmong seen (filter (is_another c) seen.all) will.topic will.qos will.message p → Contains (puts_of_will seen c will) p)
+    → (Contains (puts_of_will seen c will) p → IsAmongRecipients seen (filter (is_another c) seen.all) will.topic will.qos will.message p)
+    × (IsAmongRecipients seen (filter (is_another c) seen.all) will.topic will.qos will.message p → Contains (puts_of_will seen c will) p)
 for-will seen c will p = for-among seen will.topic will.qos will.message (filter (is_another c) seen.all) p

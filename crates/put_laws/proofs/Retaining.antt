@@ -7,7 +7,7 @@ use Rattle.sn_session.specs.declared.session.Session.{Session}
 use Rattle.sn_session.specs.declared.change.SessionOp.{SessionOp}
 use Rattle.sn_session.specs.Session.{empty_session}
 use Rattle.sn_tables.specs.Received.{is_received, id_has_no_room}
-use Rattle.sn_tables.specs.Subscriptions.{qos_of as subscribed_at, filter_has_no_room}
+use Rattle.sn_tables.specs.Subscriptions.{filter_qos, filter_has_no_room}
 use Rattle.sn_frame.specs.declared.flags.Qos.{Qos}
 use Rattle.sn_frame.specs.declared.flags.Qos.TheVariants as levels
 use Rattle.sn_frame.specs.declared.frame.Frame.{Frame}
@@ -52,13 +52,13 @@ use Rattle.sn_tick.specs.declared.due.Due.{Due}
 use Rattle.sn_tick.specs.declared.due.Due.TheVariants.{Expiry, Loss, Retry, Delivery}
 use Rattle.sn_tick.specs.Due.{first_due}
 use Rattle.sn_tick.specs.Expiry.{expire_all}
-use Rattle.sn_tick.specs.Ticking.{cleaned, may_advertise, advertised, lost, retried, plan_due, plan_if_due, tick}
+use Rattle.sn_tick.specs.Ticking.{begin_tick, may_advertise, advertised, lost, retry_row, plan_due, plan_if_due, tick}
 use Rattle.row_laws.proofs.Drafting.{connect-made, disconnect-made, will_topic-made, will_msg-made, will_topic_update-made, will_msg_update-made, register-made, subscribe-retain, unsubscribe-made, other-made}
 use Rattle.row_laws.proofs.Retaining.{plan-wins, plan-others}
 use Rattle.row_laws.proofs.Waiting.{plan-handed, plan-retained}
 use Rattle.step_laws.proofs.Drafting.{followed_for_made, pubrel_of_made, ack_of_made, wake_made, cleaned_made, expired_made}
 use Rattle.put_laws.specs.Puts.{IsOfGateway}
-use Rattle.put_laws.specs.Retained.{kept_meant, kept_at, kept_bound, kept_by_level, kept_of, kept_lost, kept_due, kept_by_tick, handed_with, handed_asked, handed_at, handed_bound, handed_of}
+use Rattle.put_laws.specs.Retained.{kept_meant, kept_at, kept_bound, kept_by_level, kept_of, kept_lost, kept_due, kept_by_tick, handed_with, handed_asked, handed_at, handed_bound, handed_by}
 use Rattle.put_laws.proofs.Putting.{of-draft}
 
 -- ---- the row of a PUBLISH
@@ -139,7 +139,7 @@ module _ (predefined : Entries) (seen : Seen) (waiting : ℕ) (a : Addr) (s : Se
   granted-handed filter qos None = refl
   granted-handed filter qos (Some named) =
       ap (λ xs. xs ++ handed_for seen filter qos waiting)
-      (changed_if-bare (subscribe_change filter qos (subscribed_at filter s.subscriptions)) (changed_if named.change nothing) (changed_if-bare named.change nothing refl))
+      (changed_if-bare (subscribe_change filter qos (filter_qos filter s.subscriptions)) (changed_if named.change nothing) (changed_if-bare named.change nothing refl))
 
   asked-handed : (asked : Asked) (qos : ℕ) → (subscribe_asked seen waiting a s bits msg_id field asked qos).handed ≡ handed_asked seen waiting s bits field asked qos
   asked-handed (askings.Refused code) qos = refl
@@ -174,7 +174,7 @@ made-nothing row h = (no_retain row.draft h, hands-none row.client row.draft.han
 abbrev IsRow : ℕ → Entries → Seen → Local → Addr → Frame → ℕ → Type 0
 IsRow g predefined seen local a frame now =
     ((row_for g predefined seen local a frame now).draft.retain ≡ kept_of predefined seen local a frame)
-    × (hands (row_for g predefined seen local a frame now).client (row_for g predefined seen local a frame now).draft.handed ≡ handed_of predefined seen local a frame)
+    × (hands (row_for g predefined seen local a frame now).client (row_for g predefined seen local a frame now).draft.handed ≡ handed_by predefined seen local a frame)
 
 row-is : (g : ℕ) (predefined : Entries) (seen : Seen) (local : Local) (a : Addr) (frame : Frame) (now : ℕ) → IsRow g predefined seen local a frame now
 row-is g predefined seen local a (frames.Connect flags protocol duration client) now = made-nothing (row_for g predefined seen local a (frames.Connect flags protocol duration client) now) (connect-made seen local a flags.bits protocol duration client now)
@@ -228,7 +228,7 @@ module _ (g lifetime : ℕ) (predefined : Entries) (seen : Seen) (local : Local)
   unfolding step
   step-retained = next-retained g seen predefined a now (row_lasting (expires_at lifetime now) (row_for g predefined seen local a frame now)) plan is ∙ ap option_to_list (row-is g predefined seen local a frame now).0
 
-  pub step-handed : handed_in plan.ops ≡ handed_of predefined seen local a frame
+  pub step-handed : handed_in plan.ops ≡ handed_by predefined seen local a frame
   unfolding step
   step-handed = next-handed g seen predefined a now (row_lasting (expires_at lifetime now) (row_for g predefined seen local a frame now)) plan is ∙ (row-is g predefined seen local a frame now).1
 
@@ -250,7 +250,7 @@ module _ (g : ℕ) (predefined : Entries) (seen : Seen) (local : Local) (now : �
       (plan-retained g c seen e plan is ∙ ap option_to_list (no_retain e none), plan-handed g c seen e plan is ∙ ap (map (handed_to c)) (no_handed e none))
   lost-tells c Loss is =
       (plan-retained g c seen (lost seen c (session_of seen c) d) plan is, plan-handed g c seen (lost seen c (session_of seen c) d) plan is ∙ ap (map (handed_to c)) (no_handed d same))
-  lost-tells c (Retry a) is = next-tells a (retried now d c) same is
+  lost-tells c (Retry a) is = next-tells a (retry_row now d c) same is
   lost-tells c (Delivery a) is = next-tells a (row_of follows.Delivery c d) same is
 
   without-tells : (e : Drafted) → Some (plan_without e) ≡ Some plan → Tells None
@@ -268,7 +268,7 @@ module _ (g : ℕ) (predefined : Entries) (seen : Seen) (local : Local) (now : �
 module _ (g lifetime advertise : ℕ) (field : List Addr) (predefined : Entries) (seen : Seen) (local : Local) (now : ℕ) (plan : Plan) (is : tick g lifetime advertise field predefined seen local now ≡ Some plan) where
   tick-tells : (retained_in plan.ops ≡ option_to_list (kept_by_tick g advertise field seen local now)) × (handed_in plan.ops ≡ [])
   tick-tells =
-      let d : Drafted = lasting (expires_at lifetime now) (cleaned g seen local now) in
+      let d : Drafted = lasting (expires_at lifetime now) (begin_tick g seen local now) in
       either-tells g predefined seen local now plan d (cleaned_made g seen local now) (may_advertise advertise field now local.advertised)
       (advertised g advertise field now d) (first_due g seen local now seen.all) is
 

@@ -34,7 +34,7 @@ use Rattle.sn_plan.specs.Asking.{retain_asked}
 use Rattle.sn_plan.specs.Bound.{session_of}
 use Rattle.sn_plan.specs.Drafts.{Drafted, nothing, changed, changed_if, acked, lasting, sent, moved, session_after}
 use Rattle.sn_plan.specs.Numbering.{planned}
-use Rattle.sn_plan.specs.Own.{messages}
+use Rattle.sn_plan.specs.Own.{new_messages}
 use Rattle.sn_plan.specs.Rows.{row_lasting, plan_for}
 use Rattle.sn_plan.proofs.Made.{for_nobody}
 use Rattle.sn_exchange.specs.declared.delivery.ToldId.{ToldId}
@@ -42,16 +42,16 @@ use Rattle.sn_exchange.specs.declared.form.Form.{Form}
 use Rattle.sn_exchange.specs.declared.peer.Peer.{Peer}
 use Rattle.sn_exchange.specs.Forms.{form_of, publication}
 use Rattle.sn_exchange.specs.Exchanges.{left, open_exchange, is_served, is_awake}
-use Rattle.sn_exchange.specs.Delivery.{Stop, id_to_tell, begun, register_first, deliver_by, none_left, and_then, deliver, deliver_left, deliver_if, then_deliver}
+use Rattle.sn_exchange.specs.Delivery.{Stop, id_to_tell, exchange_begun, register_first, deliver_by, none_left, and_then, deliver, deliver_left, deliver_if, then_deliver}
 use Rattle.sn_exchange.specs.Following.{peer_at, deliver_next}
 use Rattle.sn_publish.specs.declared.meaning.Meant.{Meant}
 use Rattle.sn_publish.specs.declared.meaning.Meant.TheVariants.{Topic, Refused}
-use Rattle.sn_publish.specs.Publishing.{named, topic_meant, within_limit, publication_meant, publish_meant, publish}
+use Rattle.sn_publish.specs.Publishing.{topic_or_refused, topic_meant, within_limit, publication_meant, publish_meant, publish}
 use Rattle.sn_publish.specs.Recipients.{puts_for}
 use Rattle.sn_deliver.specs.Serving.{publish_of, publish_in_at}
 use Rattle.sn_deliver.specs.Steps.{step}
 use Rattle.put_laws.proofs.Acked.{none-there, plan-sends}
-use Rattle.put_laws.specs.Puts.{puts_at, puts_bound, puts_by_level, IsAnswered, IsPublished, HasReceived}
+use Rattle.put_laws.specs.Puts.{puts_at, puts_bound, puts_by_level, IsReplyTo, IsPublished, HasReceived}
 use Rattle.put_laws.proofs.Putting.{step-messages}
 
 -- ---- octets of frames
@@ -116,7 +116,7 @@ module _ (n k : ℕ) (long : 1 ≡ n → ⊥) (no_publish : 12 ≡ k → ⊥) (n
     form_adds put None d = register_adds put (id_to_tell s put.topic) d
     form_adds put (Some form) d =
         choose_stop (put.qos == 0) (false, acked (name_of put) (sent peer.address (publication false put 0 form) d))
-        (true, begun peer s put Published (publication false put s.next_id form) d) d
+        (true, exchange_begun peer s put Published (publication false put s.next_id form) d) d
         (λ m there. one_more d.sends peer.address (publication false put 0 form) no_publish m there)
         (λ m there. one_more d.sends peer.address (publication false put s.next_id form) no_publish m there)
 
@@ -141,7 +141,7 @@ abbrev IsAbove : Meant → Type 0
 IsAbove (Refused code) = code ≡ 0 → ⊥
 IsAbove (Topic name) = Unit {0}
 
-named-above : (name : Option (List ℕ)) → IsAbove (named name)
+named-above : (name : Option (List ℕ)) → IsAbove (topic_or_refused name)
 named-above None = λ e. omega (arith, e)
 named-above (Some name) = tt
 
@@ -228,7 +228,7 @@ module _ (g lifetime : ℕ) (predefined : Entries) (seen : Seen) (local : Local)
 
   -- the messages, where the client is bound and the publication is about the topic
   at-level : (qos : Qos) → qos_of flags.bits ≡ qos → (c name : List ℕ) → bound ≡ Some c → meant c ≡ Topic name → puts_by_level predefined seen bound flags.bits topic msg_id body qos ≡ puts_bound predefined seen bound flags.bits topic msg_id body
-      → messages plan.ops ≡ puts_at seen (session_of seen c) msg_id body qos (Topic name)
+      → new_messages plan.ops ≡ puts_at seen (session_of seen c) msg_id body qos (Topic name)
   at-level qos q c name b m level =
       step-messages g lifetime predefined seen local a (frames.Publish flags topic msg_id body) now plan is
       ∙ (ap (λ x. puts_by_level predefined seen bound flags.bits topic msg_id body x) q
@@ -237,7 +237,7 @@ module _ (g lifetime : ℕ) (predefined : Entries) (seen : Seen) (local : Local)
       ∙ (ap (λ x. puts_at seen (session_of seen c) msg_id body x (meant c)) q
       ∙ ap (λ x. puts_at seen (session_of seen c) msg_id body qos x) m))))
 
-  pub puback-put : (t m : ℕ) → qos_of flags.bits ≡ levels.One → IsAnswered a (frames.PubAck t m 0) plan.sends → IsPublished predefined seen local a flags.bits topic 1 body (messages plan.ops)
+  pub puback-put : (t m : ℕ) → qos_of flags.bits ≡ levels.One → IsReplyTo a (frames.PubAck t m 0) plan.sends → IsPublished predefined seen local a flags.bits topic 1 body (new_messages plan.ops)
   puback-put t m q there =
       let y : Send = record { to = a; bytes = spelling (frames.PubAck t m 0) } in
       let w = from-row g lifetime predefined seen a flags.bits topic msg_id body now plan y 7 13 _ refl (λ e. omega (arith, e)) (λ e. omega (arith, e)) (λ e. omega (arith, e)) (λ e. omega (arith, e)) (λ e. omega (arith, e)) bound (by-level levels.One q) there in
@@ -245,14 +245,14 @@ module _ (g lifetime : ℕ) (predefined : Entries) (seen : Seen) (local : Local)
       let o = acked-once seen (retain_asked flags.bits) a s topic msg_id body t m (meant w.0) (limit-above body _ (topic-above predefined s (kind_of flags.bits) topic)) (subst (λ x. Contains (publish_meant seen (retain_asked flags.bits) a s topic msg_id body x (meant w.0)).sends y) q w.2) in
       (w.0, o.0, w.1, o.1, at-level levels.One q w.0 o.0 w.1 o.1 refl)
 
-  pub pubrec-put : (m : ℕ) → qos_of flags.bits ≡ levels.Two → IsAnswered a (frames.PubRec m) plan.sends → IsPublished predefined seen local a flags.bits topic 2 body (messages plan.ops) ⊎ HasReceived seen local a msg_id
+  pub pubrec-put : (m : ℕ) → qos_of flags.bits ≡ levels.Two → IsReplyTo a (frames.PubRec m) plan.sends → IsPublished predefined seen local a flags.bits topic 2 body (new_messages plan.ops) ⊎ HasReceived seen local a msg_id
   pubrec-put m q there =
       let y : Send = record { to = a; bytes = spelling (frames.PubRec m) } in
       let w = from-row g lifetime predefined seen a flags.bits topic msg_id body now plan y 4 15 _ refl (λ e. omega (arith, e)) (λ e. omega (arith, e)) (λ e. omega (arith, e)) (λ e. omega (arith, e)) (λ e. omega (arith, e)) bound (by-level levels.Two q) there in
       let s : Session = session_of seen w.0 in
       let o = received-twice seen (retain_asked flags.bits) a s topic msg_id body m (meant w.0) (subst (λ x. Contains (publish_meant seen (retain_asked flags.bits) a s topic msg_id body x (meant w.0)).sends y) q w.2) in
       let made = at-level levels.Two q w.0 o.0 w.1 o.1 refl in
-      elim (is_received msg_id s.received) as (λ b. is_received msg_id s.received ≡ b → IsPublished predefined seen local a flags.bits topic 2 body (messages plan.ops) ⊎ HasReceived seen local a msg_id) [
+      elim (is_received msg_id s.received) as (λ b. is_received msg_id s.received ≡ b → IsPublished predefined seen local a flags.bits topic 2 body (new_messages plan.ops) ⊎ HasReceived seen local a msg_id) [
         | true ↦ λ r. inr (w.0, w.1, r)
         | false ↦ λ r.
             elim o.2 [

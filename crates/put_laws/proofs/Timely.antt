@@ -31,7 +31,7 @@ use Rattle.sn_tick.specs.declared.due.Due.{Due}
 use Rattle.sn_tick.specs.declared.due.Due.TheVariants.{Expiry, Loss, Retry, Delivery}
 use Rattle.sn_tick.specs.Due.{elapsed, is_overdue, due_exchange, due_by, due_at, due_session, expiry_or_due, due_with, or_later, first_due}
 use Rattle.sn_tick.specs.Expiry.{has_expired, expire_all}
-use Rattle.sn_tick.specs.Ticking.{is_old, dialog_ended, dialogs_ended, needs_timer, timer_begun, cleaned, may_advertise, advertised, lost, plan_due, plan_if_due, tick}
+use Rattle.sn_tick.specs.Ticking.{is_old, dialog_ended, dialogs_ended, needs_timer, timer_begun, begin_tick, may_advertise, advertised, lost, plan_due, plan_if_due, tick}
 use Rattle.step_laws.specs.Laws.{IsOfOneDone, IsOfOneExpired}
 use Rattle.step_laws.proofs.Expiring.{only-past}
 use Rattle.step_laws.proofs.Keeping.{fold_keeps}
@@ -57,7 +57,7 @@ module _ {X : Type 0} (of : Drafted → X) (moves : (change : LocalChange) (d : 
   begun-kept : (g : ℕ) (seen : Seen) (timers : List Timer) (now : ℕ) (d : Drafted) (c : List ℕ) → of (timer_begun g seen timers now d c) ≡ of d
   begun-kept g seen timers now d c = choose-kept (needs_timer g timers c (seen.of c)) (moved (Heard c now) d) d (moves (Heard c now) d)
 
-  cleaned-keeps : (g : ℕ) (seen : Seen) (local : Local) (now : ℕ) → of (cleaned g seen local now) ≡ of nothing
+  cleaned-keeps : (g : ℕ) (seen : Seen) (local : Local) (now : ℕ) → of (begin_tick g seen local now) ≡ of nothing
   cleaned-keeps g seen local now =
       fold_keeps (timer_begun g seen local.timers now) of (begun-kept g seen local.timers now) seen.all (dialogs_ended now local.dialogs nothing)
       ∙ fold_keeps (dialog_ended now) of (ended-kept now) local.dialogs nothing
@@ -190,7 +190,7 @@ module _ (g : ℕ) (p : Entries) (seen : Seen) (local : Local) (now : ℕ) (plan
 pub tick-timely : (g lifetime advertise : ℕ) (field : List Addr) (p : Entries) (seen : Seen) (local : Local) (now : ℕ) (plan : Plan) (c : List ℕ) (name : ℕ × ℕ)
     → tick g lifetime advertise field p seen local now ≡ Some plan → is_acknowledged c plan.ops name ≡ true → IsTimely g p seen local now plan.sends c name
 tick-timely g lifetime advertise field p seen local now plan c name is acked =
-    let d : Drafted = lasting (expires_at lifetime now) (cleaned g seen local now) in
+    let d : Drafted = lasting (expires_at lifetime now) (begin_tick g seen local now) in
     either-way g p seen local now plan (may_advertise advertise field now local.advertised)
     (Some (plan_without (advertised g advertise field now d))) (plan_if_due g p seen local now d (first_due g seen local now seen.all))
     (IsTimely g p seen local now plan.sends c name)
@@ -207,7 +207,7 @@ not-true false h = refl
 pub loss-quiet : (g lifetime advertise : ℕ) (field : List Addr) (p : Entries) (seen : Seen) (local : Local) (now : ℕ) (plan : Plan) (lost_one c : List ℕ) (name : ℕ × ℕ)
     → tick g lifetime advertise field p seen local now ≡ Some plan → first_due g seen local now seen.all ≡ Some (lost_one, Loss) → is_acknowledged c plan.ops name ≡ false
 loss-quiet g lifetime advertise field p seen local now plan lost_one c name is loss =
-    let d : Drafted = lasting (expires_at lifetime now) (cleaned g seen local now) in
+    let d : Drafted = lasting (expires_at lifetime now) (begin_tick g seen local now) in
     not-true (is_acknowledged c plan.ops name) (λ acked.
     either-way g p seen local now plan (may_advertise advertise field now local.advertised)
     (Some (plan_without (advertised g advertise field now d))) (plan_if_due g p seen local now d (first_due g seen local now seen.all)) ⊥

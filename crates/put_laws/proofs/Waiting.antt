@@ -5,7 +5,7 @@ use Rattle.rep_op.specs.declared.op.Op.{Op}
 use Rattle.rep_op.specs.declared.op.Op.TheVariants.{Session as OfSession, Put as OfPut, Ack, Retain as OfRetain}
 use Rattle.rep_op.specs.declared.op.Put.{Put}
 use Rattle.rep_op.specs.Orders.{name_of}
-use Rattle.rep_op.specs.Sets.{put_at, is_acknowledged, Stands}
+use Rattle.rep_op.specs.Sets.{put_at, is_acknowledged, HasOperation}
 use Rattle.rep_model.specs.Views.{pending}
 use Rattle.rep_model.proofs.Lookup.{or_else}
 use Rattle.rep_model.proofs.Pending.{pending-listed}
@@ -13,14 +13,14 @@ use Rattle.rep_model.proofs.Readers.{put_at_both, is_acknowledged_both}
 use Rattle.rep_model.proofs.Thin.{pending_at-reads}
 use Rattle.sn_local.specs.Seen.{seen_of}
 use Rattle.sn_plan.specs.declared.plan.Plan.{Plan}
-use Rattle.sn_plan.specs.Flush.{AreFlush}
-use Rattle.sn_plan.specs.Own.{IsFresh, AreFresh}
+use Rattle.sn_plan.specs.Flush.{HaveNoGap}
+use Rattle.sn_plan.specs.Own.{IsFreshName, AreFresh}
 use Rattle.sn_plan.proofs.Lists.{all-both}
 use Rattle.sn_plan.proofs.Standing.{fresh-stand}
 use Rattle.row_laws.proofs.Freshness.{IsUnacknowledged, plan-fresh, plan-unacked}
 use Rattle.put_laws.proofs.Stepping.{step-cause}
 use Rattle.put_laws.proofs.Timely.{tick-timely}
-use Rattle.put_laws.specs.Puts.{IsOfGateway, IsKept}
+use Rattle.put_laws.specs.Puts.{IsOfGateway, IsWaiting}
 use Rattle.put_laws.proofs.Putting.{of-draft}
 
 -- ---- the set has no message under the name of a new one
@@ -35,7 +35,7 @@ first_none : (a b : Option Put) → or_else a b ≡ None → a ≡ None
 first_none None b e = refl
 first_none (Some x) b e = absurd (true≢false (ap is_some e))
 
-unput-one : (S A : List Op) (op : Op) → IsFresh (S ++ A) op → IsUnput S op
+unput-one : (S A : List Op) (op : Op) → IsFreshName (S ++ A) op → IsUnput S op
 unput-one S A (OfSession c stamp counter change) h = tt
 unput-one S A (OfPut c put) h = first_none (put_at c S (put.seq, put.origin)) (put_at c A (put.seq, put.origin)) (sym (put_at_both c S A (put.seq, put.origin)) ∙ h)
 unput-one S A (Ack c origin first last) h = tt
@@ -78,7 +78,7 @@ module _ (g : ℕ) (S : List Op) (plan : Plan) (is : IsOfGateway g S plan) where
   abbrev IsNew : Op → Type 0
   IsNew op = IsUnacknowledged S op × IsUnput S op
 
-  waits : (op : Op) → Stands (S ++ plan.ops) op → IsNew op → IsKept (S ++ plan.ops) op
+  waits : (op : Op) → HasOperation (S ++ plan.ops) op → IsNew op → IsWaiting (S ++ plan.ops) op
   waits (OfSession c stamp counter change) stands new = tt
   waits (OfPut c put) stands new =
       let name : ℕ × ℕ = (put.seq, put.origin) in
@@ -92,11 +92,11 @@ module _ (g : ℕ) (S : List Op) (plan : Plan) (is : IsOfGateway g S plan) where
   waits (Ack c origin first last) stands new = tt
   waits (OfRetain topic kept) stands new = tt
 
-  pub gateway-kept : AreFlush g S → AllByRecursion (IsKept (S ++ plan.ops)) plan.ops
+  pub gateway-kept : HaveNoGap g S → AllByRecursion (IsWaiting (S ++ plan.ops)) plan.ops
   gateway-kept flush =
       let h = of-draft g S plan is in
       let fresh : AreFresh S plan.ops = plan-fresh g h.client S h.draft plan h.is (flush h.client) h.apart in
-      all-both (Stands (S ++ plan.ops)) IsNew (IsKept (S ++ plan.ops)) waits plan.ops
+      all-both (HasOperation (S ++ plan.ops)) IsNew (IsWaiting (S ++ plan.ops)) waits plan.ops
       (fresh-stand S plan.ops fresh)
       (all-both (IsUnacknowledged S) (IsUnput S) IsNew (λ op a b. (a, b)) plan.ops
       (plan-unacked g h.client S h.draft plan h.is)

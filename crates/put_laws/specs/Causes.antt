@@ -32,15 +32,15 @@ use Rattle.step_laws.specs.Laws.{IsDoneWith}
 -- ---- whom a frame is from
 
 -- the client that began the dialog, if that waits for the topic of a will; else the bound one
-abbrev pub by_topic : Option (List ℕ) → WillDialog → Awaited → Option (List ℕ)
-by_topic bound dialog Topic = Some dialog.request.client
-by_topic bound dialog (Message topic) = bound
+abbrev pub client_by_topic : Option (List ℕ) → WillDialog → Awaited → Option (List ℕ)
+client_by_topic bound dialog Topic = Some dialog.request.client
+client_by_topic bound dialog (Message topic) = bound
 
 -- the client that a WILLTOPIC speaks for: that of its address's dialog, if that waits for the
 -- topic, else the bound one
 abbrev pub gives_topic : Option (List ℕ) → Option WillDialog → Option (List ℕ)
 gives_topic bound None = bound
-gives_topic bound (Some dialog) = by_topic bound dialog dialog.awaited
+gives_topic bound (Some dialog) = client_by_topic bound dialog dialog.awaited
 
 -- the client that began the dialog, if that waits for the message of a will; else the bound one
 abbrev pub by_message : Option (List ℕ) → WillDialog → Awaited → Option (List ℕ)
@@ -87,8 +87,8 @@ AnswersFor seen c phase msg_id put =
 -- the return codes from 2 on refuse what was sent: 0 accepts it, and with 1, congestion, it is sent
 -- again later. That is wider than the step table: with 2 a message that went out by the id of its
 -- entry goes on waiting.
-abbrev pub IsRefusal : ℕ → Type 0
-IsRefusal code = 2 ≤ code
+abbrev pub IsRefusalCode : ℕ → Type 0
+IsRefusalCode code = 2 ≤ code
 
 -- The frame is a cause to acknowledge this message of the client c. A CONNECT, or the end of a will
 -- dialog, begins a clean session, and is accepted. A PUBACK accepts the message at quality of
@@ -101,11 +101,11 @@ IsCause seen local a (frames.WillTopic will) sends c put =
 IsCause seen local a (frames.WillMsg message) sends c put =
     BeganClean local a c × IsWelcome a sends
 IsCause seen local a (frames.PubAck topic_id msg_id code) sends c put =
-    AnswersFor seen c Published msg_id put × (((code ≡ 0) × (put.qos ≡ 1)) ⊎ IsRefusal code)
+    AnswersFor seen c Published msg_id put × (((code ≡ 0) × (put.qos ≡ 1)) ⊎ IsRefusalCode code)
 IsCause seen local a (frames.PubRec msg_id) sends c put =
     AnswersFor seen c Published msg_id put × (put.qos ≡ 2)
 IsCause seen local a (frames.RegAck topic_id msg_id code) sends c put =
-    AnswersFor seen c Registering msg_id put × IsRefusal code
+    AnswersFor seen c Registering msg_id put × IsRefusalCode code
 IsCause seen local a frame sends c put = ⊥
 
 -- ---- what the law says

@@ -11,7 +11,7 @@ use Rattle.sn_frame.specs.declared.frame.Frame.TheVariants as frames
 use Rattle.sn_frame.specs.FlagBits.{qos_of}
 use Rattle.sn_frame.specs.Grammar.{spelling}
 use Rattle.rep_op.specs.declared.op.Op.{Op}
-use Rattle.rep_op.specs.declared.op.Op.TheVariants.{Session as OfSession, Put as OfPut, Ack, Retain as OfRetain}
+use Rattle.rep_op.specs.declared.op.Op.TheVariants.{Put as OfPut}
 use Rattle.rep_model.specs.Views.{pending_at}
 use Rattle.sn_local.specs.declared.config.Addr.{Addr}
 use Rattle.sn_local.specs.declared.config.Send.{Send}
@@ -27,15 +27,15 @@ use Rattle.sn_publish.specs.declared.meaning.Meant.TheVariants.{Topic, Refused}
 use Rattle.sn_publish.specs.Publishing.{publication_meant}
 use Rattle.sn_publish.specs.Recipients.{qos_for, puts_for}
 use Rattle.sn_tick.specs.declared.due.Due.{Due}
-use Rattle.sn_tick.specs.declared.due.Due.TheVariants.{Expiry, Loss, Retry, Delivery}
+use Rattle.sn_tick.specs.declared.due.Due.TheVariants.{Loss}
 use Rattle.sn_tick.specs.Due.{first_due}
 use Rattle.sn_tick.specs.Ticking.{may_advertise, will_puts, tick}
 
 -- The message is for one of these clients, a recipient of a publication to this topic with this
 -- body that comes at this quality of service. It has the quality of service at which that client
 -- gets it.
-abbrev pub IsAmong : Seen → List (List ℕ) → List ℕ → ℕ → List ℕ → NewPut → Type 0
-IsAmong seen clients topic qos body p =
+abbrev pub IsAmongRecipients : Seen → List (List ℕ) → List ℕ → ℕ → List ℕ → NewPut → Type 0
+IsAmongRecipients seen clients topic qos body p =
     Contains clients p.client × (qos_for topic qos (seen.of p.client) ≡ Some p.qos)
     × (p.topic ≡ topic) × (p.body ≡ body)
 
@@ -70,11 +70,7 @@ abbrev pub puts_by_level : Entries → Seen → Option (List ℕ) → ℕ → �
     → List NewPut
 puts_by_level predefined seen bound bits topic msg_id body levels.MinusOne =
     puts_meant seen 0 body (publication_meant predefined empty_session bits topic body)
-puts_by_level predefined seen bound bits topic msg_id body levels.Zero =
-    puts_bound predefined seen bound bits topic msg_id body
-puts_by_level predefined seen bound bits topic msg_id body levels.One =
-    puts_bound predefined seen bound bits topic msg_id body
-puts_by_level predefined seen bound bits topic msg_id body levels.Two =
+puts_by_level predefined seen bound bits topic msg_id body level =
     puts_bound predefined seen bound bits topic msg_id body
 
 -- The messages that a PUBLISH from this address makes: one for each recipient. It makes none if its
@@ -93,10 +89,8 @@ puts_of predefined seen local a frame = []
 -- the messages that are made if this is due with the client: those of its will if it is lost, else
 -- none
 abbrev pub puts_lost : Seen → List ℕ → Due → List NewPut
-puts_lost seen c Expiry = []
 puts_lost seen c Loss = will_puts seen c (session_of seen c).will
-puts_lost seen c (Retry a) = []
-puts_lost seen c (Delivery a) = []
+puts_lost seen c due = []
 
 -- the messages that are made for what is due: those of `puts_lost`, and none if nothing is due
 abbrev pub puts_due : Seen → Option (List ℕ × Due) → List NewPut
@@ -111,8 +105,8 @@ puts_by_tick g advertise field seen local now =
     else puts_due seen (first_due g seen local now seen.all)
 
 -- this frame goes to the address
-abbrev pub IsAnswered : Addr → Frame → List Send → Type 0
-IsAnswered a answer sends = Contains sends (record { to = a; bytes = spelling answer })
+abbrev pub IsReplyTo : Addr → Frame → List Send → Type 0
+IsReplyTo a answer sends = Contains sends (record { to = a; bytes = spelling answer })
 
 -- the client that is bound to the address publishes to a topic, and these are the messages for the
 -- recipients at this quality of service
@@ -139,8 +133,6 @@ IsOfGateway g S plan =
     × (tick g lifetime advertise field predefined (seen_of S) local now ≡ Some plan))
 
 -- a message of these operations waits for its client in the set
-abbrev pub IsKept : List Op → Op → Type 0
-IsKept S (OfSession c stamp counter change) = Unit {0}
-IsKept S (OfPut c put) = pending_at c S (put.seq, put.origin) ≡ Some put
-IsKept S (Ack c origin first last) = Unit {0}
-IsKept S (OfRetain topic kept) = Unit {0}
+abbrev pub IsWaiting : List Op → Op → Type 0
+IsWaiting S (OfPut c put) = pending_at c S (put.seq, put.origin) ≡ Some put
+IsWaiting S op = Unit {0}

@@ -30,7 +30,7 @@ use Rattle.sn_publish.specs.declared.meaning.Meant.TheVariants.{Topic, Refused}
 use Rattle.sn_publish.specs.Publishing.{publication_meant}
 use Rattle.sn_publish.specs.Retaining.{retained_of}
 use Rattle.sn_tick.specs.declared.due.Due.{Due}
-use Rattle.sn_tick.specs.declared.due.Due.TheVariants.{Expiry, Loss, Retry, Delivery}
+use Rattle.sn_tick.specs.declared.due.Due.TheVariants.{Loss}
 use Rattle.sn_tick.specs.Due.{first_due}
 use Rattle.sn_tick.specs.Ticking.{may_advertise, will_retained}
 
@@ -67,11 +67,7 @@ abbrev pub kept_by_level : Entries → Seen → Option (List ℕ) → ℕ → �
 kept_by_level predefined seen bound bits topic msg_id body levels.MinusOne =
     kept_meant seen (retain_asked bits) 0 body
     (publication_meant predefined empty_session bits topic body)
-kept_by_level predefined seen bound bits topic msg_id body levels.Zero =
-    kept_bound predefined seen bound bits topic msg_id body
-kept_by_level predefined seen bound bits topic msg_id body levels.One =
-    kept_bound predefined seen bound bits topic msg_id body
-kept_by_level predefined seen bound bits topic msg_id body levels.Two =
+kept_by_level predefined seen bound bits topic msg_id body level =
     kept_bound predefined seen bound bits topic msg_id body
 
 -- What a frame retains. A PUBLISH that has Retain set, and makes its messages, retains its topic,
@@ -84,10 +80,8 @@ kept_of predefined seen local a frame = None
 
 -- what is retained if this is due with the client: its will, if it is lost, and that asks for it
 abbrev pub kept_lost : Seen → List ℕ → Due → Option Posted
-kept_lost seen c Expiry = None
 kept_lost seen c Loss = will_retained seen (session_of seen c).will
-kept_lost seen c (Retry a) = None
-kept_lost seen c (Delivery a) = None
+kept_lost seen c due = None
 
 -- what is retained by what is due
 abbrev pub kept_due : Seen → Option (List ℕ × Due) → Option Posted
@@ -131,7 +125,7 @@ handed_bound predefined seen (Some c) bits field =
 
 -- What a frame hands. A SUBSCRIBE that is accepted hands its client what is retained of the topics
 -- that it asks for. No other frame hands anything.
-abbrev pub handed_of : Entries → Seen → Local → Addr → Frame → List NewPut
-handed_of predefined seen local a (frames.Subscribe flags msg_id field) =
+abbrev pub handed_by : Entries → Seen → Local → Addr → Frame → List NewPut
+handed_by predefined seen local a (frames.Subscribe flags msg_id field) =
     handed_bound predefined seen (client_at a local.bindings) flags.bits field
-handed_of predefined seen local a frame = []
+handed_by predefined seen local a frame = []

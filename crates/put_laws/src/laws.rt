@@ -25,15 +25,15 @@ ghost use Rattle.sn_plan.specs.declared.draft.NewPut.{NewPut};
 ghost use Rattle.sn_plan.specs.declared.draft.Posted.{Posted};
 ghost use Rattle.sn_plan.specs.declared.limits.TheConstants.{MAX_PENDING};
 ghost use Rattle.sn_plan.specs.declared.plan.Plan.{Plan};
-ghost use Rattle.sn_plan.specs.Flush.{AreFlush};
+ghost use Rattle.sn_plan.specs.Flush.{HaveNoGap};
 ghost use Rattle.sn_plan.specs.Numbering.{kept_as};
-ghost use Rattle.sn_plan.specs.Own.{HasMoment, IsOneEach, messages, handed_in, retained_in};
+ghost use Rattle.sn_plan.specs.Own.{HasMoment, IsOneEach, new_messages, handed_in, retained_in};
 ghost use Rattle.sn_publish.specs.Recipients.{is_another, puts_for, puts_of_will};
 ghost use Rattle.sn_subscribe.specs.Handing.{at_most, handed_for};
 ghost use Rattle.sn_deliver.specs.Steps.{step};
 ghost use Rattle.sn_tick.specs.Ticking.{tick};
-ghost use Rattle.put_laws.specs.Retained.{handed_of, kept_of, kept_by_tick};
-ghost use Rattle.put_laws.specs.Puts.{HasReceived, IsAmong, IsAnswered, IsKept, IsOfGateway, IsPublished, puts_by_tick, puts_of};
+ghost use Rattle.put_laws.specs.Retained.{handed_by, kept_of, kept_by_tick};
+ghost use Rattle.put_laws.specs.Puts.{HasReceived, IsAmongRecipients, IsReplyTo, IsWaiting, IsOfGateway, IsPublished, puts_by_tick, puts_of};
 
 /// What a gateway accepts it puts, with that step one message for each recipient, and they wait. A
 /// PUBLISH makes the messages of its recipients, a client that is taken for lost those of its will,
@@ -52,35 +52,37 @@ pub fn accepted_is_put()
     ensures frames { (g lifetime : ℕ) (predefined : Entries) (seen : Seen) (local : Local)
         (a : Addr) (frame : Frame) (now : ℕ) (plan : Plan)
         → step g lifetime predefined seen local a frame now ≡ Some plan
-        → messages plan.ops ≡ puts_of predefined seen local a frame }
+        → new_messages plan.ops ≡ puts_of predefined seen local a frame }
     ensures ticks { (g lifetime advertise : ℕ) (field : List Addr) (predefined : Entries)
         (seen : Seen) (local : Local) (now : ℕ) (plan : Plan)
         → tick g lifetime advertise field predefined seen local now ≡ Some plan
-        → messages plan.ops ≡ puts_by_tick g advertise field seen local now }
+        → new_messages plan.ops ≡ puts_by_tick g advertise field seen local now }
     ensures puback { (g lifetime : ℕ) (predefined : Entries) (seen : Seen) (local : Local)
         (a : Addr) (flags : Flags) (topic msg_id : ℕ) (body : List ℕ) (now : ℕ) (plan : Plan)
         (t m : ℕ)
         → step g lifetime predefined seen local a (frames.Publish flags topic msg_id body) now
         ≡ Some plan
-        → qos_of flags.bits ≡ One → IsAnswered a (frames.PubAck t m 0) plan.sends
-        → IsPublished predefined seen local a flags.bits topic 1 body (messages plan.ops) }
+        → qos_of flags.bits ≡ One → IsReplyTo a (frames.PubAck t m 0) plan.sends
+        → IsPublished predefined seen local a flags.bits topic 1 body (new_messages plan.ops) }
     ensures pubrec { (g lifetime : ℕ) (predefined : Entries) (seen : Seen) (local : Local)
         (a : Addr) (flags : Flags) (topic msg_id : ℕ) (body : List ℕ) (now : ℕ) (plan : Plan)
         (m : ℕ)
         → step g lifetime predefined seen local a (frames.Publish flags topic msg_id body) now
         ≡ Some plan
-        → qos_of flags.bits ≡ Two → IsAnswered a (frames.PubRec m) plan.sends
-        → IsPublished predefined seen local a flags.bits topic 2 body (messages plan.ops)
+        → qos_of flags.bits ≡ Two → IsReplyTo a (frames.PubRec m) plan.sends
+        → IsPublished predefined seen local a flags.bits topic 2 body (new_messages plan.ops)
         ⊎ HasReceived seen local a msg_id }
     ensures recipients { (seen : Seen) (topic : List ℕ) (qos : ℕ) (body : List ℕ) (p : NewPut)
-        → Contains (puts_for seen topic qos body) p ↔ IsAmong seen seen.all topic qos body p }
+        → Contains (puts_for seen topic qos body) p ↔ IsAmongRecipients seen seen.all topic qos body
+        p }
     ensures wills { (seen : Seen) (c : List ℕ) (will : Will) (p : NewPut)
         → Contains (puts_of_will seen c will) p
-        ↔ IsAmong seen (filter (is_another c) seen.all) will.topic will.qos will.message p }
+        ↔ IsAmongRecipients seen
+        (filter (is_another c) seen.all) will.topic will.qos will.message p }
     ensures once { (g : ℕ) (S : List Op) (plan : Plan) → IsOfGateway g S plan
-        → IsOneEach (messages plan.ops) }
-    ensures kept { (g : ℕ) (S : List Op) (plan : Plan) → IsOfGateway g S plan → AreFlush g S
-        → AllByRecursion (IsKept (S ++ plan.ops)) plan.ops }
+        → IsOneEach (new_messages plan.ops) }
+    ensures kept { (g : ℕ) (S : List Op) (plan : Plan) → IsOfGateway g S plan → HaveNoGap g S
+        → AllByRecursion (IsWaiting (S ++ plan.ops)) plan.ops }
 {}
 
 /// What is published with Retain is retained, and handed to whoever subscribes later. A PUBLISH
@@ -113,7 +115,7 @@ pub fn retained_is_handed()
     ensures handed { (g lifetime : ℕ) (predefined : Entries) (seen : Seen) (local : Local)
         (a : Addr) (frame : Frame) (now : ℕ) (plan : Plan)
         → step g lifetime predefined seen local a frame now ≡ Some plan
-        → handed_in plan.ops ≡ handed_of predefined seen local a frame }
+        → handed_in plan.ops ≡ handed_by predefined seen local a frame }
     ensures ticks_hand { (g lifetime advertise : ℕ) (field : List Addr) (predefined : Entries)
         (seen : Seen) (local : Local) (now : ℕ) (plan : Plan)
         → tick g lifetime advertise field predefined seen local now ≡ Some plan

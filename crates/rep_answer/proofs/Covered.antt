@@ -21,7 +21,7 @@ use Rattle.rep_digest.specs.declared.entry.OriginEntry.{OriginEntry}
 use Rattle.rep_digest.specs.declared.entry.ClientEntry.{ClientEntry}
 use Rattle.rep_digest.specs.declared.entry.RetainedEntry.{RetainedEntry}
 use Rattle.rep_digest.specs.Digests.{origin_entry, has_ranges, numbers_from, origin_entries, client_entry, entry_of_topic, topic_entry, digest}
-use Rattle.rep_answer.specs.Answers.{entry_of, topic_entry_of, ranges_of, ranges_in, acknowledged_in, waiting_in, sees, covers_operation, covers_put, covers_acknowledgement, is_as_late, covers_retain}
+use Rattle.rep_answer.specs.Answers.{entry_of, topic_entry_of, ranges_of, entry_ranges, acknowledged_in, waiting_in, sees, covers_operation, covers_put, covers_acknowledgement, is_as_late, covers_retain}
 use Rattle.rep_digest.proofs.Waiting.{by_or, waiting_there}
 
 -- ---- what an entry says, the set says
@@ -48,10 +48,10 @@ said_of ranges n c T (o ∷ os) origin e =
       | false ↦ λ h. said_of ranges n c T os origin h
     ] e
 
-said_ranges : (ranges : OriginEntry → List (ℕ × ℕ)) (n : ℕ) (c : List ℕ) (T : List Op) (origin : ℕ) → in_ranges n (ranges_in ranges origin (entry_of c (digest T).clients)) ≡ true → in_ranges n (ranges (origin_entry c T origin)) ≡ true
+said_ranges : (ranges : OriginEntry → List (ℕ × ℕ)) (n : ℕ) (c : List ℕ) (T : List Op) (origin : ℕ) → in_ranges n (entry_ranges ranges origin (entry_of c (digest T).clients)) ≡ true → in_ranges n (ranges (origin_entry c T origin)) ≡ true
 unfolding origin_entries
 said_ranges ranges n c T origin =
-    said (λ e. in_ranges n (ranges_in ranges origin e) ≡ true → in_ranges n (ranges (origin_entry c T origin)) ≡ true) T (clients T) c
+    said (λ e. in_ranges n (entry_ranges ranges origin e) ≡ true → in_ranges n (ranges (origin_entry c T origin)) ≡ true) T (clients T) c
     (λ e. absurd (true≢false (sym e))) (said_of ranges n c T (numbers_from 1 255) origin)
 
 -- the entry of a topic in the digest of a set is what the set says of it

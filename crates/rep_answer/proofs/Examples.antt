@@ -5,7 +5,7 @@ use Rattle.rep_op.specs.declared.op.Op.TheVariants.{Put as OfPut, Ack}
 use Rattle.rep_model.specs.Views.{gapless}
 use Rattle.rep_digest.specs.Digests.{digest, origin_entries, numbers_from}
 use Rattle.rep_answer.specs.Answers.{covers_put, covers_acknowledgement}
-use Rattle.rep_answer.specs.inner.Steps.{outside, left_by}
+use Rattle.rep_answer.specs.inner.Steps.{outside, left_by_digest}
 use Rattle.rep_digest.proofs.Examples.{s1}
 
 -- of the messages 1 to 3 of gateway 2, 1 and 2 are acknowledged and 3 waits
@@ -25,7 +25,7 @@ unfolding gapless origin_entries numbers_from
 ack_not_covered = refl
 
 -- so of the acknowledgements 1 to 4 the last two are left
-left : left_by (digest some_done) (Ack s1 2 1 4) ≡ Ack s1 2 3 4 ∷ []
+left : left_by_digest (digest some_done) (Ack s1 2 1 4) ≡ Ack s1 2 3 4 ∷ []
 unfolding gapless origin_entries numbers_from
 left = refl
 

@@ -10,7 +10,7 @@ use Rattle.std.specs.Ordering.{ordering_reverse}
 use Rattle.std.proofs.lemmas.Map.Text.{is_eq-slice_cmp}
 use Rattle.std.specs.List.{find, AllByRecursion}
 use Rattle.sn_tables.specs.Tables.{is_ascending}
-use Rattle.sn_tables.specs.inner.Tables.{IsAt, IsGap}
+use Rattle.sn_tables.specs.inner.Tables.{IsFoundAt, IsGap}
 use Rattle.sn_tables.proofs.Ascending.{Ascends, from_test}
 use Rattle.sn_tables.proofs.Places.{find_at, find_gap}
 use Rattle.rep_digest.specs.declared.entry.ClientEntry.{ClientEntry}
@@ -45,7 +45,7 @@ module _ (c : List ℕ) where
   above : (e : ClientEntry) → client_cmp e.client c ≡ Greater → same_client c e.client ≡ false
   above e h = same_by_order c e.client ∙ ap is_eq h
 
-pub found : (d : List ClientEntry) (at : ℕ) (c : List ℕ) (e : ClientEntry) → IsAt (λ e. client_cmp e.client c) d at → entry_of c d ≡ Some (get_or d at e)
+pub found : (d : List ClientEntry) (at : ℕ) (c : List ℕ) (e : ClientEntry) → IsFoundAt (λ e. client_cmp e.client c) d at → entry_of c d ≡ Some (get_or d at e)
 found d at c e h = find_at (λ (e : ClientEntry). client_cmp e.client c) (λ e. same_client c e.client) (passes c) (below c) (above c) d at e h
 
 pub absent : (d : List ClientEntry) (at : ℕ) (c : List ℕ) → IsGap (λ e. client_cmp e.client c) d at → entry_of c d ≡ None
@@ -88,7 +88,7 @@ module _ (t : List ℕ) where
   topic_above : (e : RetainedEntry) → topic_name_cmp e.topic t ≡ Greater → same_topic t e.topic ≡ false
   topic_above e h = topic_by_order t e.topic ∙ ap is_eq h
 
-pub topic_found : (d : List RetainedEntry) (at : ℕ) (t : List ℕ) (e : RetainedEntry) → IsAt (λ e. topic_name_cmp e.topic t) d at → topic_entry_of t d ≡ Some (get_or d at e)
+pub topic_found : (d : List RetainedEntry) (at : ℕ) (t : List ℕ) (e : RetainedEntry) → IsFoundAt (λ e. topic_name_cmp e.topic t) d at → topic_entry_of t d ≡ Some (get_or d at e)
 topic_found d at t e h = find_at (λ (e : RetainedEntry). topic_name_cmp e.topic t) (λ e. same_topic t e.topic) (topic_passes t) (topic_below t) (topic_above t) d at e h
 
 pub topic_absent : (d : List RetainedEntry) (at : ℕ) (t : List ℕ) → IsGap (λ e. topic_name_cmp e.topic t) d at → topic_entry_of t d ≡ None

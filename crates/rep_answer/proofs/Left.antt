@@ -23,17 +23,17 @@ use Rattle.rep_digest.specs.declared.entry.OriginEntry.{OriginEntry}
 use Rattle.rep_digest.specs.declared.entry.ClientEntry.{ClientEntry}
 use Rattle.rep_digest.specs.Digests.{Digested}
 use Rattle.rep_answer.specs.Answers.{entry_of, ranges_of, acknowledged_in, waiting_in, sees, covers_operation, covers_put, covers_acknowledgement, covers_retain, IsRest}
-use Rattle.rep_digest.specs.WellMade.{IsOrigin, IsEntry, IsDigest}
-use Rattle.rep_answer.specs.inner.Steps.{outside, ack_of, left_by, IsLeft}
+use Rattle.rep_digest.specs.WellMade.{IsOriginEntry, IsDigestEntry, IsDigest}
+use Rattle.rep_answer.specs.inner.Steps.{outside, ack_of_range, left_by_digest, IsLeftByDigest}
 use Rattle.rep_answer.proofs.Reaching.{in_outside, IsPartOf, parts}
 
 -- ---- the ranges that an entry has are apart
 
-found_origin : (test : OriginEntry → Bool) (os : List OriginEntry) → AllByRecursion IsOrigin os → AreApart (ranges_of (λ o. o.acknowledged) (find_first test os))
+found_origin : (test : OriginEntry → Bool) (os : List OriginEntry) → AllByRecursion IsOriginEntry os → AreApart (ranges_of (λ o. o.acknowledged) (find_first test os))
 found_origin test [] h = tt
 found_origin test (o ∷ os) h = elim (test o) as (λ b. AreApart (ranges_of (λ o. o.acknowledged) (cond b (Some o) (find_first test os)))) [ true ↦ h.0.acknowledged.1 | false ↦ found_origin test os h.1 ]
 
-found_entry : (test : ClientEntry → Bool) (origin : ℕ) (d : List ClientEntry) → AllByRecursion IsEntry d → AreApart (acknowledged_in origin (find_first test d))
+found_entry : (test : ClientEntry → Bool) (origin : ℕ) (d : List ClientEntry) → AllByRecursion IsDigestEntry d → AreApart (acknowledged_in origin (find_first test d))
 found_entry test origin [] h = tt
 found_entry test origin (e ∷ d) h = elim (test e) as (λ b. AreApart (acknowledged_in origin (cond b (Some e) (find_first test d)))) [ true ↦ found_origin (λ o. origin == o.origin) e.origins h.0.origins | false ↦ found_entry test origin d h.1 ]
 
@@ -43,41 +43,41 @@ module _ (d : Digested) (is : IsDigest d) where
 
   -- ---- session operations
 
-  no_operations : (c e : List ℕ) (o : ℕ) (rs : List (ℕ × ℕ)) (X : List Op) → filter_map (operation_of c) (map (ack_of e o) rs ++ X) ≡ filter_map (operation_of c) X
+  no_operations : (c e : List ℕ) (o : ℕ) (rs : List (ℕ × ℕ)) (X : List Op) → filter_map (operation_of c) (map (ack_of_range e o) rs ++ X) ≡ filter_map (operation_of c) X
   no_operations c e o [] X = refl
   no_operations c e o (r ∷ rs) X = no_operations c e o rs X
 
-  no_puts : (c e : List ℕ) (o : ℕ) (rs : List (ℕ × ℕ)) (X : List Op) → filter_map (put_of c) (map (ack_of e o) rs ++ X) ≡ filter_map (put_of c) X
+  no_puts : (c e : List ℕ) (o : ℕ) (rs : List (ℕ × ℕ)) (X : List Op) → filter_map (put_of c) (map (ack_of_range e o) rs ++ X) ≡ filter_map (put_of c) X
   no_puts c e o [] X = refl
   no_puts c e o (r ∷ rs) X = no_puts c e o rs X
 
   abbrev unseen : List ℕ → Stamp × ℕ → Bool
   unseen c name = not (covers_operation d c name)
 
-  operations_left : (c : List ℕ) (W : List Op) → operations c (flat_map (left_by d) W) ≡ filter (λ e. unseen c e.0) (operations c W)
+  operations_left : (c : List ℕ) (W : List Op) → operations c (flat_map (left_by_digest d) W) ≡ filter (λ e. unseen c e.0) (operations c W)
   operations_left c [] = refl
   operations_left c (OfPut e p ∷ W) =
-      elim (in_ranges p.seq (waiting_in p.origin (entry_of e d.clients)) || in_ranges p.seq (acknowledged_in p.origin (entry_of e d.clients))) as (λ b. filter_map (operation_of c) ((if b then [] else OfPut e p ∷ []) ++ flat_map (left_by d) W) ≡ filter (λ e. unseen c e.0) (operations c W)) [
+      elim (in_ranges p.seq (waiting_in p.origin (entry_of e d.clients)) || in_ranges p.seq (acknowledged_in p.origin (entry_of e d.clients))) as (λ b. filter_map (operation_of c) ((if b then [] else OfPut e p ∷ []) ++ flat_map (left_by_digest d) W) ≡ filter (λ e. unseen c e.0) (operations c W)) [
         | true ↦ operations_left c W
         | false ↦ operations_left c W
       ]
   operations_left c (OfRetain t k ∷ W) =
-      elim (covers_retain d t (clock_of k)) as (λ b. filter_map (operation_of c) ((if b then [] else OfRetain t k ∷ []) ++ flat_map (left_by d) W) ≡ filter (λ e. unseen c e.0) (operations c W)) [
+      elim (covers_retain d t (clock_of k)) as (λ b. filter_map (operation_of c) ((if b then [] else OfRetain t k ∷ []) ++ flat_map (left_by_digest d) W) ≡ filter (λ e. unseen c e.0) (operations c W)) [
         | true ↦ operations_left c W
         | false ↦ operations_left c W
       ]
-  operations_left c (Ack e o f l ∷ W) = no_operations c e o (outside (f, l) (acknowledged_in o (entry_of e d.clients))) (flat_map (left_by d) W) ∙ operations_left c W
+  operations_left c (Ack e o f l ∷ W) = no_operations c e o (outside (f, l) (acknowledged_in o (entry_of e d.clients))) (flat_map (left_by_digest d) W) ∙ operations_left c W
   operations_left c (OfSession e s i change ∷ W) =
       let rest = operations_left c W in
-      elim (same_client c e) as (λ b. same_client c e ≡ b → filter_map (operation_of c) ((if sees (entry_of e d.clients) (s, i) then [] else OfSession e s i change ∷ []) ++ flat_map (left_by d) W)
+      elim (same_client c e) as (λ b. same_client c e ≡ b → filter_map (operation_of c) ((if sees (entry_of e d.clients) (s, i) then [] else OfSession e s i change ∷ []) ++ flat_map (left_by_digest d) W)
       ≡ filter (λ e. unseen c e.0) (cons_option (if b then Some ((s, i), change) else None) (operations c W))) [
         | true ↦ λ same.
-            ap (λ x. filter_map (operation_of c) ((if sees (entry_of x d.clients) (s, i) then [] else OfSession e s i change ∷ []) ++ flat_map (left_by d) W)) (sym (same_client-true c e same))
-            ∙ elim (sees (entry_of c d.clients) (s, i)) as (λ v. filter_map (operation_of c) ((if v then [] else OfSession e s i change ∷ []) ++ flat_map (left_by d) W) ≡ cond (not v) (((s, i), change) ∷ filter (λ e. unseen c e.0) (operations c W)) (filter (λ e. unseen c e.0) (operations c W))) [
+            ap (λ x. filter_map (operation_of c) ((if sees (entry_of x d.clients) (s, i) then [] else OfSession e s i change ∷ []) ++ flat_map (left_by_digest d) W)) (sym (same_client-true c e same))
+            ∙ elim (sees (entry_of c d.clients) (s, i)) as (λ v. filter_map (operation_of c) ((if v then [] else OfSession e s i change ∷ []) ++ flat_map (left_by_digest d) W) ≡ cond (not v) (((s, i), change) ∷ filter (λ e. unseen c e.0) (operations c W)) (filter (λ e. unseen c e.0) (operations c W))) [
               | true ↦ rest
               | false ↦ (λ k. cons_option (if same k then Some ((s, i), change) else None) (rest k))
             ]
-        | false ↦ λ other. elim (sees (entry_of e d.clients) (s, i)) as (λ v. filter_map (operation_of c) ((if v then [] else OfSession e s i change ∷ []) ++ flat_map (left_by d) W) ≡ filter (λ e. unseen c e.0) (operations c W)) [
+        | false ↦ λ other. elim (sees (entry_of e d.clients) (s, i)) as (λ v. filter_map (operation_of c) ((if v then [] else OfSession e s i change ∷ []) ++ flat_map (left_by_digest d) W) ≡ filter (λ e. unseen c e.0) (operations c W)) [
           | true ↦ rest
           | false ↦ (λ k. cons_option (if other k then Some ((s, i), change) else None) (rest k))
         ]
@@ -88,30 +88,30 @@ module _ (d : Digested) (is : IsDigest d) where
   abbrev uncovered : List ℕ → ℕ × ℕ → Bool
   uncovered c name = not (covers_put d c name)
 
-  puts_left : (c : List ℕ) (W : List Op) → puts c (flat_map (left_by d) W) ≡ filter (λ e. uncovered c e.0) (puts c W)
+  puts_left : (c : List ℕ) (W : List Op) → puts c (flat_map (left_by_digest d) W) ≡ filter (λ e. uncovered c e.0) (puts c W)
   puts_left c [] = refl
   puts_left c (OfSession e s i change ∷ W) =
-      elim (sees (entry_of e d.clients) (s, i)) as (λ v. filter_map (put_of c) ((if v then [] else OfSession e s i change ∷ []) ++ flat_map (left_by d) W) ≡ filter (λ e. uncovered c e.0) (puts c W)) [
+      elim (sees (entry_of e d.clients) (s, i)) as (λ v. filter_map (put_of c) ((if v then [] else OfSession e s i change ∷ []) ++ flat_map (left_by_digest d) W) ≡ filter (λ e. uncovered c e.0) (puts c W)) [
         | true ↦ puts_left c W
         | false ↦ puts_left c W
       ]
   puts_left c (OfRetain t k ∷ W) =
-      elim (covers_retain d t (clock_of k)) as (λ b. filter_map (put_of c) ((if b then [] else OfRetain t k ∷ []) ++ flat_map (left_by d) W) ≡ filter (λ e. uncovered c e.0) (puts c W)) [
+      elim (covers_retain d t (clock_of k)) as (λ b. filter_map (put_of c) ((if b then [] else OfRetain t k ∷ []) ++ flat_map (left_by_digest d) W) ≡ filter (λ e. uncovered c e.0) (puts c W)) [
         | true ↦ puts_left c W
         | false ↦ puts_left c W
       ]
-  puts_left c (Ack e o f l ∷ W) = no_puts c e o (outside (f, l) (acknowledged_in o (entry_of e d.clients))) (flat_map (left_by d) W) ∙ puts_left c W
+  puts_left c (Ack e o f l ∷ W) = no_puts c e o (outside (f, l) (acknowledged_in o (entry_of e d.clients))) (flat_map (left_by_digest d) W) ∙ puts_left c W
   puts_left c (OfPut e p ∷ W) =
       let rest = puts_left c W in
-      elim (same_client c e) as (λ b. same_client c e ≡ b → filter_map (put_of c) ((if covers_put d e (p.seq, p.origin) then [] else OfPut e p ∷ []) ++ flat_map (left_by d) W)
+      elim (same_client c e) as (λ b. same_client c e ≡ b → filter_map (put_of c) ((if covers_put d e (p.seq, p.origin) then [] else OfPut e p ∷ []) ++ flat_map (left_by_digest d) W)
       ≡ filter (λ e. uncovered c e.0) (cons_option (if b then Some ((p.seq, p.origin), p) else None) (puts c W))) [
         | true ↦ λ same.
-            ap (λ x. filter_map (put_of c) ((if covers_put d x (p.seq, p.origin) then [] else OfPut e p ∷ []) ++ flat_map (left_by d) W)) (sym (same_client-true c e same))
-            ∙ elim (covers_put d c (p.seq, p.origin)) as (λ v. filter_map (put_of c) ((if v then [] else OfPut e p ∷ []) ++ flat_map (left_by d) W) ≡ cond (not v) (((p.seq, p.origin), p) ∷ filter (λ e. uncovered c e.0) (puts c W)) (filter (λ e. uncovered c e.0) (puts c W))) [
+            ap (λ x. filter_map (put_of c) ((if covers_put d x (p.seq, p.origin) then [] else OfPut e p ∷ []) ++ flat_map (left_by_digest d) W)) (sym (same_client-true c e same))
+            ∙ elim (covers_put d c (p.seq, p.origin)) as (λ v. filter_map (put_of c) ((if v then [] else OfPut e p ∷ []) ++ flat_map (left_by_digest d) W) ≡ cond (not v) (((p.seq, p.origin), p) ∷ filter (λ e. uncovered c e.0) (puts c W)) (filter (λ e. uncovered c e.0) (puts c W))) [
               | true ↦ rest
               | false ↦ (λ k. cons_option (if same k then Some ((p.seq, p.origin), p) else None) (rest k))
             ]
-        | false ↦ λ other. elim (covers_put d e (p.seq, p.origin)) as (λ v. filter_map (put_of c) ((if v then [] else OfPut e p ∷ []) ++ flat_map (left_by d) W) ≡ filter (λ e. uncovered c e.0) (puts c W)) [
+        | false ↦ λ other. elim (covers_put d e (p.seq, p.origin)) as (λ v. filter_map (put_of c) ((if v then [] else OfPut e p ∷ []) ++ flat_map (left_by_digest d) W) ≡ filter (λ e. uncovered c e.0) (puts c W)) [
           | true ↦ rest
           | false ↦ (λ k. cons_option (if other k then Some ((p.seq, p.origin), p) else None) (rest k))
         ]
@@ -120,7 +120,7 @@ module _ (d : Digested) (is : IsDigest d) where
   -- ---- acknowledgements
 
   -- the pieces of a range
-  acknowledged_pieces : (c : List ℕ) (name : ℕ × ℕ) (e : List ℕ) (o : ℕ) (rs : List (ℕ × ℕ)) → list_any (acknowledges c name) (map (ack_of e o) rs) ≡ (same_client c e && (name.1 == o) && in_ranges name.0 rs)
+  acknowledged_pieces : (c : List ℕ) (name : ℕ × ℕ) (e : List ℕ) (o : ℕ) (rs : List (ℕ × ℕ)) → list_any (acknowledges c name) (map (ack_of_range e o) rs) ≡ (same_client c e && (name.1 == o) && in_ranges name.0 rs)
   acknowledged_pieces c name e o [] = nothing (same_client c e && (name.1 == o))
     where
       nothing : (b : Bool) → false ≡ (b && false)
@@ -134,7 +134,7 @@ module _ (d : Digested) (is : IsDigest d) where
       shared true x y z = refl
       shared false x y z = refl
 
-  one_acknowledged : (c : List ℕ) (name : ℕ × ℕ) (op : Op) → IsTrue (is_well_made op) → list_any (acknowledges c name) (left_by d op) ≡ (not (covers_acknowledgement d c name) && acknowledges c name op)
+  one_acknowledged : (c : List ℕ) (name : ℕ × ℕ) (op : Op) → IsTrue (is_well_made op) → list_any (acknowledges c name) (left_by_digest d op) ≡ (not (covers_acknowledgement d c name) && acknowledges c name op)
   one_acknowledged c name (OfSession e s i change) made =
       elim (sees (entry_of e d.clients) (s, i)) as (λ v. list_any (acknowledges c name) (if v then [] else OfSession e s i change ∷ []) ≡ (not (covers_acknowledgement d c name) && false)) [ true ↦ falsely (not (covers_acknowledgement d c name)) | false ↦ falsely (not (covers_acknowledgement d c name)) ]
     where
@@ -178,14 +178,14 @@ module _ (d : Digested) (is : IsDigest d) where
       swapped false true = refl
       swapped false false = refl
 
-  acknowledgements_left : (c : List ℕ) (name : ℕ × ℕ) (W : List Op) → AreWellMade W → is_acknowledged c (flat_map (left_by d) W) name ≡ (not (covers_acknowledgement d c name) && is_acknowledged c W name)
+  acknowledgements_left : (c : List ℕ) (name : ℕ × ℕ) (W : List Op) → AreWellMade W → is_acknowledged c (flat_map (left_by_digest d) W) name ≡ (not (covers_acknowledgement d c name) && is_acknowledged c W name)
   acknowledgements_left c name [] made = nothing (not (covers_acknowledgement d c name))
     where
       nothing : (b : Bool) → false ≡ (b && false)
       nothing true = refl
       nothing false = refl
   acknowledgements_left c name (op ∷ W) made =
-      list_any-append (acknowledges c name) (left_by d op) (flat_map (left_by d) W)
+      list_any-append (acknowledges c name) (left_by_digest d op) (flat_map (left_by_digest d) W)
       ∙ (λ k. one_acknowledged c name op made.0 k || acknowledgements_left c name W made.1 k)
       ∙ both (not (covers_acknowledgement d c name)) (acknowledges c name op) (is_acknowledged c W name)
     where
@@ -195,37 +195,37 @@ module _ (d : Digested) (is : IsDigest d) where
 
   -- ---- what is retained
 
-  no_retains : (t e : List ℕ) (o : ℕ) (rs : List (ℕ × ℕ)) (X : List Op) → filter_map (retain_of t) (map (ack_of e o) rs ++ X) ≡ filter_map (retain_of t) X
+  no_retains : (t e : List ℕ) (o : ℕ) (rs : List (ℕ × ℕ)) (X : List Op) → filter_map (retain_of t) (map (ack_of_range e o) rs ++ X) ≡ filter_map (retain_of t) X
   no_retains t e o [] X = refl
   no_retains t e o (r ∷ rs) X = no_retains t e o rs X
 
   abbrev unsaid : List ℕ → ℕ × ℕ → Bool
   unsaid t name = not (covers_retain d t name)
 
-  retains_left : (t : List ℕ) (W : List Op) → retains t (flat_map (left_by d) W) ≡ filter (λ e. unsaid t e.0) (retains t W)
+  retains_left : (t : List ℕ) (W : List Op) → retains t (flat_map (left_by_digest d) W) ≡ filter (λ e. unsaid t e.0) (retains t W)
   retains_left t [] = refl
   retains_left t (OfSession e s i change ∷ W) =
-      elim (sees (entry_of e d.clients) (s, i)) as (λ v. filter_map (retain_of t) ((if v then [] else OfSession e s i change ∷ []) ++ flat_map (left_by d) W) ≡ filter (λ e. unsaid t e.0) (retains t W)) [
+      elim (sees (entry_of e d.clients) (s, i)) as (λ v. filter_map (retain_of t) ((if v then [] else OfSession e s i change ∷ []) ++ flat_map (left_by_digest d) W) ≡ filter (λ e. unsaid t e.0) (retains t W)) [
         | true ↦ retains_left t W
         | false ↦ retains_left t W
       ]
   retains_left t (OfPut e p ∷ W) =
-      elim (covers_put d e (p.seq, p.origin)) as (λ v. filter_map (retain_of t) ((if v then [] else OfPut e p ∷ []) ++ flat_map (left_by d) W) ≡ filter (λ e. unsaid t e.0) (retains t W)) [
+      elim (covers_put d e (p.seq, p.origin)) as (λ v. filter_map (retain_of t) ((if v then [] else OfPut e p ∷ []) ++ flat_map (left_by_digest d) W) ≡ filter (λ e. unsaid t e.0) (retains t W)) [
         | true ↦ retains_left t W
         | false ↦ retains_left t W
       ]
-  retains_left t (Ack e o f l ∷ W) = no_retains t e o (outside (f, l) (acknowledged_in o (entry_of e d.clients))) (flat_map (left_by d) W) ∙ retains_left t W
+  retains_left t (Ack e o f l ∷ W) = no_retains t e o (outside (f, l) (acknowledged_in o (entry_of e d.clients))) (flat_map (left_by_digest d) W) ∙ retains_left t W
   retains_left t (OfRetain u k ∷ W) =
       let rest = retains_left t W in
-      elim (same_topic t u) as (λ b. same_topic t u ≡ b → filter_map (retain_of t) ((if covers_retain d u (clock_of k) then [] else OfRetain u k ∷ []) ++ flat_map (left_by d) W)
+      elim (same_topic t u) as (λ b. same_topic t u ≡ b → filter_map (retain_of t) ((if covers_retain d u (clock_of k) then [] else OfRetain u k ∷ []) ++ flat_map (left_by_digest d) W)
       ≡ filter (λ e. unsaid t e.0) (cons_option (if b then Some (clock_of k, k) else None) (retains t W))) [
         | true ↦ λ same.
-            ap (λ x. filter_map (retain_of t) ((if covers_retain d x (clock_of k) then [] else OfRetain u k ∷ []) ++ flat_map (left_by d) W)) (sym (same_topic-true t u same))
-            ∙ elim (covers_retain d t (clock_of k)) as (λ v. filter_map (retain_of t) ((if v then [] else OfRetain u k ∷ []) ++ flat_map (left_by d) W) ≡ cond (not v) ((clock_of k, k) ∷ filter (λ e. unsaid t e.0) (retains t W)) (filter (λ e. unsaid t e.0) (retains t W))) [
+            ap (λ x. filter_map (retain_of t) ((if covers_retain d x (clock_of k) then [] else OfRetain u k ∷ []) ++ flat_map (left_by_digest d) W)) (sym (same_topic-true t u same))
+            ∙ elim (covers_retain d t (clock_of k)) as (λ v. filter_map (retain_of t) ((if v then [] else OfRetain u k ∷ []) ++ flat_map (left_by_digest d) W) ≡ cond (not v) ((clock_of k, k) ∷ filter (λ e. unsaid t e.0) (retains t W)) (filter (λ e. unsaid t e.0) (retains t W))) [
               | true ↦ rest
               | false ↦ (λ i. cons_option (if same i then Some (clock_of k, k) else None) (rest i))
             ]
-        | false ↦ λ other. elim (covers_retain d u (clock_of k)) as (λ v. filter_map (retain_of t) ((if v then [] else OfRetain u k ∷ []) ++ flat_map (left_by d) W) ≡ filter (λ e. unsaid t e.0) (retains t W)) [
+        | false ↦ λ other. elim (covers_retain d u (clock_of k)) as (λ v. filter_map (retain_of t) ((if v then [] else OfRetain u k ∷ []) ++ flat_map (left_by_digest d) W) ≡ filter (λ e. unsaid t e.0) (retains t W)) [
           | true ↦ rest
           | false ↦ (λ i. cons_option (if other i then Some (clock_of k, k) else None) (rest i))
         ]
@@ -237,7 +237,7 @@ module _ (d : Digested) (is : IsDigest d) where
   turned true x = refl
   turned false x = refl
 
-  pub is_rest : (K W : List Op) → AreWellMade W → Same W K → IsRest d K (flat_map (left_by d) W)
+  pub is_rest : (K W : List Op) → AreWellMade W → Same W K → IsRest d K (flat_map (left_by_digest d) W)
   is_rest K W made same = record {
     operations_left = λ c name.
         ap (find operation_cmp name) (operations_left c W)
@@ -259,7 +259,7 @@ module _ (d : Digested) (is : IsDigest d) where
 
   -- ---- what is left is well made
 
-  made_pieces : (e : List ℕ) (o f l : ℕ) → IsTrue (is_well_made (Ack e o f l)) → (rs : List (ℕ × ℕ)) → AllByRecursion (IsPartOf (f, l)) rs → AreWellMade (map (ack_of e o) rs)
+  made_pieces : (e : List ℕ) (o f l : ℕ) → IsTrue (is_well_made (Ack e o f l)) → (rs : List (ℕ × ℕ)) → AllByRecursion (IsPartOf (f, l)) rs → AreWellMade (map (ack_of_range e o) rs)
   made_pieces e o f l made [] h = tt
   made_pieces e o f l made (r ∷ rs) h =
       let w = and_parts _ (nat_le f l) made in
@@ -272,22 +272,22 @@ module _ (d : Digested) (is : IsDigest d) where
   all_of_both [] ys f g = g
   all_of_both (x ∷ xs) ys f g = (f.0, all_of_both xs ys f.1 g)
 
-  made_one : (op : Op) → IsTrue (is_well_made op) → AreWellMade (left_by d op)
+  made_one : (op : Op) → IsTrue (is_well_made op) → AreWellMade (left_by_digest d op)
   made_one (OfSession e s i change) made = elim (sees (entry_of e d.clients) (s, i)) as (λ v. AreWellMade (if v then [] else OfSession e s i change ∷ [])) [ true ↦ tt | false ↦ (made, tt) ]
   made_one (OfPut e p) made = elim (covers_put d e (p.seq, p.origin)) as (λ v. AreWellMade (if v then [] else OfPut e p ∷ [])) [ true ↦ tt | false ↦ (made, tt) ]
   made_one (OfRetain t k) made = elim (covers_retain d t (clock_of k)) as (λ v. AreWellMade (if v then [] else OfRetain t k ∷ [])) [ true ↦ tt | false ↦ (made, tt) ]
   made_one (Ack e o f l) made = made_pieces e o f l made (outside (f, l) (acknowledged_in o (entry_of e d.clients))) (parts (f, l) (acknowledged_in o (entry_of e d.clients)) (made_range e o f l made).forward)
 
-  pub left_made : (W : List Op) → AreWellMade W → AreWellMade (flat_map (left_by d) W)
+  pub left_made : (W : List Op) → AreWellMade W → AreWellMade (flat_map (left_by_digest d) W)
   left_made [] made = tt
-  left_made (op ∷ W) made = all_of_both (left_by d op) (flat_map (left_by d) W) (made_one op made.0) (left_made W made.1)
+  left_made (op ∷ W) made = all_of_both (left_by_digest d op) (flat_map (left_by_digest d) W) (made_one op made.0) (left_made W made.1)
 
   -- what is left of what a replica hands out
-  pub left_held : (K : List Op) (held : List (List Op)) (X : List Op) → IsHeld K held → X ≡ flat_map (left_by d) (all_of held) → AreWellMade X × IsLeft d K X
+  pub left_held : (K : List Op) (held : List (List Op)) (X : List Op) → IsHeld K held → X ≡ flat_map (left_by_digest d) (all_of held) → AreWellMade X × IsLeftByDigest d K X
   left_held K held X h e =
       let W = all_of held in
       let whole : h.0 ≡ W = sym h.2.whole in
       let delta : IsDeltaOf (keep K) W = subst (λ (V : List Op). IsDeltaOf (keep K) V) whole h.1 in (
         subst AreWellMade (sym e) (left_made W delta.delta.well_made),
-        subst (λ (Y : List Op). IsLeft d K Y) (sym e) (is_rest (keep K) W delta.delta.well_made delta.same),
+        subst (λ (Y : List Op). IsLeftByDigest d K Y) (sym e) (is_rest (keep K) W delta.delta.well_made delta.same),
       )

@@ -6,7 +6,7 @@ use Rattle.std.specs.List.Sorted.{IsPartitionedBy}
 use Rattle.std.proofs.lemmas.Bool.{and_parts, and_from, or_left, or_right, ltb-true, lt-ltb, ltb-false, false_from_ne_true, cases_lt}
 use Rattle.rep_model.specs.Ranges.{is_within, in_ranges, AreApartFrom, AreApart}
 use Rattle.rep_model.proofs.Ranges.{within-parts, in-apart}
-use Rattle.rep_answer.specs.inner.Steps.{ending_from, beginning_by, begins_by, reaches, before, behind, outside_from, outside}
+use Rattle.rep_answer.specs.inner.Steps.{ending_from, beginning_by, begins_by, reaches_into, before, behind, outside_from, outside}
 
 within-from : (n : ℕ) (r : ℕ × ℕ) → r.0 ≤ n → n ≤ r.1 → is_within n r ≡ true
 within-from n r f g = and_from (nat_le r.0 n) (nat_le n r.1) (le-leb r.0 n f) (le-leb n r.1 g)
@@ -113,8 +113,8 @@ plain false e = e
 
 -- how two ranges lie
 data Lies (r s : ℕ × ℕ) : Type 0 where
-  apart : reaches r s ≡ false → (r.1 < s.0) ⊎ (s.1 < r.0) → Lies r s
-  joined : reaches r s ≡ true → s.0 ≤ r.1 → r.0 ≤ s.1 → Lies r s
+  apart : reaches_into r s ≡ false → (r.1 < s.0) ⊎ (s.1 < r.0) → Lies r s
+  joined : reaches_into r s ≡ true → s.0 ≤ r.1 → r.0 ≤ s.1 → Lies r s
 
 lies : (r s : ℕ × ℕ) → Lies r s
 lies r s = elim (nat_le s.0 r.1) as (λ b. nat_le s.0 r.1 ≡ b → Lies r s) [
@@ -125,29 +125,29 @@ lies r s = elim (nat_le s.0 r.1) as (λ b. nat_le s.0 r.1 ≡ b → Lies r s) [
   ] refl
 ] refl
 
-nothing_before : (r s : ℕ × ℕ) → reaches r s ≡ false → before r s ≡ []
+nothing_before : (r s : ℕ × ℕ) → reaches_into r s ≡ false → before r s ≡ []
 nothing_before r s e = ap (λ b. if nat_lt r.0 s.0 && b then (r.0, s.0 - 1) ∷ [] else []) e ∙ nothing (nat_lt r.0 s.0) ((r.0, s.0 - 1) ∷ [])
   where
     nothing : (b : Bool) (x : List (ℕ × ℕ)) → (if b && false then x else []) ≡ []
     nothing true x = refl
     nothing false x = refl
 
-step_apart : (r s : ℕ × ℕ) (rs : List (ℕ × ℕ)) → reaches r s ≡ false → outside r (s ∷ rs) ≡ outside r rs
+step_apart : (r s : ℕ × ℕ) (rs : List (ℕ × ℕ)) → reaches_into r s ≡ false → outside r (s ∷ rs) ≡ outside r rs
 step_apart r s rs e = (λ i. nothing_before r s e i ++ outside_from (if e i then (if nat_lt s.1 r.1 then Some (s.1 + 1, r.1) else None) else Some r) rs)
 
 in_before : (n : ℕ) (r s : ℕ × ℕ) → in_ranges n (before r s) ≡ true → (r.0 ≤ n) × (n < s.0)
-in_before n r s = elim (nat_lt r.0 s.0 && reaches r s) as (λ b. (nat_lt r.0 s.0 && reaches r s) ≡ b → in_ranges n (if b then (r.0, s.0 - 1) ∷ [] else []) ≡ true → (r.0 ≤ n) × (n < s.0)) [
+in_before n r s = elim (nat_lt r.0 s.0 && reaches_into r s) as (λ b. (nat_lt r.0 s.0 && reaches_into r s) ≡ b → in_ranges n (if b then (r.0, s.0 - 1) ∷ [] else []) ≡ true → (r.0 ≤ n) × (n < s.0)) [
   | true ↦ λ e t.
-      let lt = ltb-true r.0 s.0 (and_parts (nat_lt r.0 s.0) (reaches r s) e).0 in
+      let lt = ltb-true r.0 s.0 (and_parts (nat_lt r.0 s.0) (reaches_into r s) e).0 in
       let w = within-parts n (r.0, s.0 - 1) (plain (is_within n (r.0, s.0 - 1)) t) in
       let hi : n ≤ s.0 - 1 = w.1 in
       (w.0, omega (arith, hi, lt))
   | false ↦ λ e t. absurd (true≢false (sym t))
 ] refl
 
-before_in : (n : ℕ) (r s : ℕ × ℕ) → reaches r s ≡ true → r.0 ≤ n → n < s.0 → in_ranges n (before r s) ≡ true
+before_in : (n : ℕ) (r s : ℕ × ℕ) → reaches_into r s ≡ true → r.0 ≤ n → n < s.0 → in_ranges n (before r s) ≡ true
 before_in n r s e lo hi =
-    ap (λ b. in_ranges n (if b then (r.0, s.0 - 1) ∷ [] else [])) (and_from (nat_lt r.0 s.0) (reaches r s) (lt-ltb r.0 s.0 (omega (arith, lo, hi))) e)
+    ap (λ b. in_ranges n (if b then (r.0, s.0 - 1) ∷ [] else [])) (and_from (nat_lt r.0 s.0) (reaches_into r s) (lt-ltb r.0 s.0 (omega (arith, lo, hi))) e)
     ∙ or_left (is_within n (r.0, s.0 - 1)) false (within-from n (r.0, s.0 - 1) lo (omega (arith, hi)))
 
 record IsOutside (n : ℕ) (r : ℕ × ℕ) (rs : List (ℕ × ℕ)) : Type 0 where
@@ -236,7 +236,7 @@ outside_beginning n k r [] ends h = refl
 outside_beginning n k r (s ∷ rs) ends h =
     elim (nat_le s.0 n) as (λ b. nat_le s.0 n ≡ b → outside r (if b then s ∷ beginning_by n rs else []) ≡ outside r (s ∷ rs)) [
       | false ↦ λ e. sym (beyond s.0 r (s ∷ rs) (omega arith, h.1, h.2) (let past = leb-false s.0 n e in omega (arith, past, ends)))
-      | true ↦ λ _. ap (λ x. before r s ++ x) (elim (reaches r s) as (λ b. outside_from (if b then (if nat_lt s.1 r.1 then Some (s.1 + 1, r.1) else None) else Some r) (beginning_by n rs)
+      | true ↦ λ _. ap (λ x. before r s ++ x) (elim (reaches_into r s) as (λ b. outside_from (if b then (if nat_lt s.1 r.1 then Some (s.1 + 1, r.1) else None) else Some r) (beginning_by n rs)
           ≡ outside_from (if b then (if nat_lt s.1 r.1 then Some (s.1 + 1, r.1) else None) else Some r) rs) [
             | false ↦ outside_beginning n (s.1 + 2) r rs ends h.2
             | true ↦ elim (nat_lt s.1 r.1) as (λ b. outside_from (if b then Some (s.1 + 1, r.1) else None) (beginning_by n rs) ≡ outside_from (if b then Some (s.1 + 1, r.1) else None) rs) [
@@ -278,13 +278,13 @@ all_both P [] ys f g = g
 all_both P (x ∷ xs) ys f g = (f.0, all_both P xs ys f.1 g)
 
 part_before : (r s : ℕ × ℕ) → AllByRecursion (IsPartOf r) (before r s)
-part_before r s = elim (nat_lt r.0 s.0 && reaches r s) as (λ b. (nat_lt r.0 s.0 && reaches r s) ≡ b → AllByRecursion (IsPartOf r) (if b then (r.0, s.0 - 1) ∷ [] else [])) [
-  | true ↦ λ e. let lt = ltb-true r.0 s.0 (and_parts (nat_lt r.0 s.0) (reaches r s) e).0 in (record { from = omega arith; forward = omega (arith, lt) }, tt)
+part_before r s = elim (nat_lt r.0 s.0 && reaches_into r s) as (λ b. (nat_lt r.0 s.0 && reaches_into r s) ≡ b → AllByRecursion (IsPartOf r) (if b then (r.0, s.0 - 1) ∷ [] else [])) [
+  | true ↦ λ e. let lt = ltb-true r.0 s.0 (and_parts (nat_lt r.0 s.0) (reaches_into r s) e).0 in (record { from = omega arith; forward = omega (arith, lt) }, tt)
   | false ↦ λ _. tt
 ] refl
 
 parts_behind : (r s : ℕ × ℕ) (rs : List (ℕ × ℕ)) → AllByRecursion (IsPartOf r) (outside r rs) → (s.1 < r.1 → AllByRecursion (IsPartOf (s.1 + 1, r.1)) (outside (s.1 + 1, r.1) rs)) → AllByRecursion (IsPartOf r) (outside_from (behind r s) rs)
-parts_behind r s rs all rest = elim (reaches r s) as (λ b. reaches r s ≡ b → AllByRecursion (IsPartOf r) (outside_from (if b then (if nat_lt s.1 r.1 then Some (s.1 + 1, r.1) else None) else Some r) rs)) [
+parts_behind r s rs all rest = elim (reaches_into r s) as (λ b. reaches_into r s ≡ b → AllByRecursion (IsPartOf r) (outside_from (if b then (if nat_lt s.1 r.1 then Some (s.1 + 1, r.1) else None) else Some r) rs)) [
   | false ↦ λ _. all
   | true ↦ λ e. elim (nat_lt s.1 r.1) as (λ b. nat_lt s.1 r.1 ≡ b → AllByRecursion (IsPartOf r) (outside_from (if b then Some (s.1 + 1, r.1) else None) rs)) [
     | true ↦ λ f.

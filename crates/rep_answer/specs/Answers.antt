@@ -29,18 +29,18 @@ ranges_of ranges None = []
 ranges_of ranges (Some o) = ranges o
 
 -- the ranges that an entry of a client has of an origin, or none
-abbrev pub ranges_in : (OriginEntry → List (ℕ × ℕ)) → ℕ → Option ClientEntry → List (ℕ × ℕ)
-ranges_in ranges origin None = []
-ranges_in ranges origin (Some entry) =
+abbrev pub entry_ranges : (OriginEntry → List (ℕ × ℕ)) → ℕ → Option ClientEntry → List (ℕ × ℕ)
+entry_ranges ranges origin None = []
+entry_ranges ranges origin (Some entry) =
     ranges_of ranges (find (λ o. origin == o.origin) entry.origins)
 
 -- the sequence numbers of an origin that the client's entry has as acknowledged
 abbrev pub acknowledged_in : ℕ → Option ClientEntry → List (ℕ × ℕ)
-acknowledged_in origin entry = ranges_in (λ o. o.acknowledged) origin entry
+acknowledged_in origin entry = entry_ranges (λ o. o.acknowledged) origin entry
 
 -- the sequence numbers of an origin that the client's entry has as waiting
 abbrev pub waiting_in : ℕ → Option ClientEntry → List (ℕ × ℕ)
-waiting_in origin entry = ranges_in (λ o. o.waiting) origin entry
+waiting_in origin entry = entry_ranges (λ o. o.waiting) origin entry
 
 -- whether an entry sees a session operation: it is below the stamp, or at it without a gap from 0
 -- on

@@ -8,9 +8,9 @@ ghost use Rattle.rep_op.specs.WellMade as made;
 ghost use Rattle.rep_model.specs.Ranges as range_list;
 ghost use Rattle.rep_answer.specs.Answers.{IsAnswer};
 ghost use Rattle.rep_answer.specs.Answers as spec;
-ghost use Rattle.rep_digest.specs.WellMade.{IsEntry, AreClients};
+ghost use Rattle.rep_digest.specs.WellMade.{IsDigestEntry, AreClients};
 ghost use Rattle.rep_answer.specs.Answers.{entry_of};
-ghost use Rattle.rep_answer.specs.inner.Steps.{before, outside, outside_from, ack_of, left_of, left_by, IsLeft};
+ghost use Rattle.rep_answer.specs.inner.Steps.{before, outside, outside_from, ack_of_range, left_by_entry, left_by_digest, IsLeftByDigest};
 ghost use Rattle.rep_answer.specs.inner.Steps as steps;
 
 use super::cover::{
@@ -44,7 +44,7 @@ fn left_of_replica<R: Replica>(
     digest: &Digest,
 ) -> Result<Vec<Op>, NoMemory>
     ensures { IfOk result (λ ops. AreWellMade ops.items
-        × IsLeft digest.now (R.kept replica.now) ops.items) }
+        × IsLeftByDigest digest.now (R.kept replica.now) ops.items) }
 {
     let _clients = digest.clients();
     let Ok(held) = replica.held(alloc) else {
@@ -55,7 +55,8 @@ fn left_of_replica<R: Replica>(
 
 /// What a digest leaves of the operations of deltas.
 fn left_of_deltas(alloc: Global, digest: &Digest, deltas: &[Delta]) -> Result<Vec<Op>, NoMemory>
-    ensures { IfOk result (λ ops. ops.items ≡ flat_map (left_by digest.now) (all_of deltas.now)) }
+    ensures { IfOk result
+        (λ ops. ops.items ≡ flat_map (left_by_digest digest.now) (all_of deltas.now)) }
 {
     let mut left = Vec::new(alloc);
     for delta in deltas {
@@ -68,7 +69,7 @@ fn left_of_deltas(alloc: Global, digest: &Digest, deltas: &[Delta]) -> Result<Ve
 fn add_left(alloc: Global, left: &mut Vec<Op>, digest: &Digest, ops: &[Op]) -> Result<(), NoMemory>
     requires { AreWellMade ops.now }
     ensures { OnOk result (left.new.items ≡ left.old.items ++ flat_map
-        (left_by digest.now) ops.now) }
+        (left_by_digest digest.now) ops.now) }
 {
     for op in ops {
         add_left_of(alloc, left, digest, op)?;
@@ -79,7 +80,7 @@ fn add_left(alloc: Global, left: &mut Vec<Op>, digest: &Digest, ops: &[Op]) -> R
 /// Copies what a digest leaves of an operation after the others.
 fn add_left_of(alloc: Global, left: &mut Vec<Op>, digest: &Digest, op: &Op) -> Result<(), NoMemory>
     requires { IsTrue (made.is_well_made op.now) }
-    ensures { OnOk result (left.new.items ≡ left.old.items ++ left_by digest.now op.now) }
+    ensures { OnOk result (left.new.items ≡ left.old.items ++ left_by_digest digest.now op.now) }
 {
     match op {
         Op::Session { client, .. } => add_left_in(alloc, left, digest.clients(), client, op),
@@ -105,7 +106,7 @@ fn add_left_in(
     requires clients { AreClients entries.now }
     requires made { IsTrue (made.is_well_made op.now) }
     ensures { OnOk result (left.new.items
-        ≡ left.old.items ++ left_of (entry_of client.now entries.now) op.now) }
+        ≡ left.old.items ++ left_by_entry (entry_of client.now entries.now) op.now) }
 {
     match find_entry(entries, client) {
         None => add_copy(alloc, left, op),
@@ -120,9 +121,10 @@ fn add_left_by(
     entry: &ClientEntry,
     op: &Op,
 ) -> Result<(), NoMemory>
-    requires entry { IsEntry entry.now }
+    requires entry { IsDigestEntry entry.now }
     requires made { IsTrue (made.is_well_made op.now) }
-    ensures { OnOk result (left.new.items ≡ left.old.items ++ left_of (Some entry.now) op.now) }
+    ensures { OnOk result
+        (left.new.items ≡ left.old.items ++ left_by_entry (Some entry.now) op.now) }
 {
     match op {
         Op::Session { stamp, counter, .. } => {
@@ -165,7 +167,7 @@ fn add_copy(alloc: Global, left: &mut Vec<Op>, op: &Op) -> Result<(), NoMemory>
 
 /// Whether a message waits or is acknowledged.
 fn covers(entry: &ClientEntry, origin: u8, seq: u64) -> bool
-    requires { IsEntry entry.now }
+    requires { IsDigestEntry entry.now }
     ensures { result
         ≡ (range_list.in_ranges seq (spec.waiting_in origin (Some entry.now))
         || range_list.in_ranges seq
@@ -184,7 +186,7 @@ fn add_outside(
     ranges: &[(u64, u64)],
 ) -> Result<(), NoMemory>
     requires { range.0 ≤ range.1 }
-    ensures { OnOk result (left.new.items ≡ left.old.items ++ map (ack_of client.now origin)
+    ensures { OnOk result (left.new.items ≡ left.old.items ++ map (ack_of_range client.now origin)
         (outside range ranges.now)) }
 {
     let mut rest = Some(range);
@@ -208,8 +210,8 @@ fn add_part(
     covered: (u64, u64),
 ) -> Result<Option<(u64, u64)>, NoMemory>
     ensures { IfOk result (λ next. (more : List (ℕ × ℕ)) → left.new.items ++ map
-        (ack_of client.now origin) (outside_from next more) ≡ left.old.items ++ map
-        (ack_of client.now origin) (outside_from rest (covered ∷ more))) }
+        (ack_of_range client.now origin) (outside_from next more) ≡ left.old.items ++ map
+        (ack_of_range client.now origin) (outside_from rest (covered ∷ more))) }
 {
     let Some(range) = rest else {
         return Ok(None);
@@ -227,7 +229,7 @@ fn add_before(
     range: (u64, u64),
     covered: (u64, u64),
 ) -> Result<(), NoMemory>
-    ensures { OnOk result (left.new.items ≡ left.old.items ++ map (ack_of client.now origin)
+    ensures { OnOk result (left.new.items ≡ left.old.items ++ map (ack_of_range client.now origin)
         (before range covered)) }
 {
     if range.0 < covered.0 && covered.0 <= range.1 && range.0 <= covered.1 {
@@ -257,7 +259,8 @@ fn add_range(
     origin: u8,
     range: (u64, u64),
 ) -> Result<(), NoMemory>
-    ensures { OnOk result (left.new.items ≡ left.old.items ++ ack_of client.now origin range ∷ []) }
+    ensures { OnOk result
+        (left.new.items ≡ left.old.items ++ ack_of_range client.now origin range ∷ []) }
 {
     left.push(Op::Ack {
         client: client.copied(alloc)?,

@@ -10,7 +10,7 @@ ghost use Rattle.rep_model.specs.Ranges.{AreApart};
 ghost use Rattle.rep_model.specs.Ranges as range_list;
 ghost use Rattle.rep_answer.specs.Answers.{entry_of};
 ghost use Rattle.rep_answer.specs.Answers as spec;
-ghost use Rattle.rep_digest.specs.WellMade.{IsEntry, ClientsAscend, AreClients};
+ghost use Rattle.rep_digest.specs.WellMade.{IsDigestEntry, ClientsAscend, AreClients};
 ghost use Rattle.rep_answer.specs.inner.Steps.{begins_by};
 ghost use Rattle.rep_answer.specs.inner.Steps as steps;
 
@@ -21,7 +21,7 @@ use rep_ops::{ClientId, Stamp};
 pub fn find_entry<'a>(entries: &'a [ClientEntry], client: &ClientId) -> Option<&'a ClientEntry>
     requires { AreClients entries.now }
     ensures { MatchOption result (entry_of client.now entries.now ≡ None)
-        (λ entry. (entry_of client.now entries.now ≡ Some entry.now) × IsEntry entry.now) }
+        (λ entry. (entry_of client.now entries.now ≡ Some entry.now) × IsDigestEntry entry.now) }
 {
     match place(entries, client) {
         Ok(at) => Some(&entries[at]),
@@ -39,7 +39,7 @@ fn place(entries: &[ClientEntry], client: &ClientId) -> Result<usize, usize>
 
 /// The acknowledged ranges that the entry has of an origin.
 pub fn acknowledged_in(entry: &ClientEntry, origin: u8) -> &[(u64, u64)]
-    requires { IsEntry entry.now }
+    requires { IsDigestEntry entry.now }
     ensures ranges { result.now ≡ spec.acknowledged_in origin (Some entry.now) }
     ensures apart { AreApart result.now }
 {
@@ -51,7 +51,7 @@ pub fn acknowledged_in(entry: &ClientEntry, origin: u8) -> &[(u64, u64)]
 
 /// The ranges of messages that wait which the entry has of an origin.
 pub fn waiting_in(entry: &ClientEntry, origin: u8) -> &[(u64, u64)]
-    requires { IsEntry entry.now }
+    requires { IsDigestEntry entry.now }
     ensures ranges { result.now ≡ spec.waiting_in origin (Some entry.now) }
     ensures apart { AreApart result.now }
 {

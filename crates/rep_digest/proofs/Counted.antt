@@ -7,7 +7,7 @@ use Rattle.rep_model.proofs.Thin.{visible-thin, history-thin}
 use Rattle.rep_model.proofs.Joins.{same_by_counts}
 use Rattle.rep_model.proofs.Limits.{pending-counts, acknowledged-counts}
 use Rattle.rep_model.proofs.Named.{clients-counts}
-use Rattle.rep_digest.specs.Digests.{number_of, origin_entry, has_ranges, numbers_from, origin_entries, client_entry, client_entries, digest}
+use Rattle.rep_digest.specs.Digests.{number_as_range, origin_entry, has_ranges, numbers_from, origin_entries, client_entry, client_entries, digest}
 use Rattle.rep_model.specs.Limits.{joined}
 use Rattle.std.specs.List.{filter_map}
 use Rattle.rep_digest.proofs.Retaining.{topics_counted}
@@ -17,7 +17,7 @@ module _ (S K : List Op) (h : CountsAs S K) where
   same_origin c origin = λ i. record {
     origin = origin;
     acknowledged = acknowledged-counts c origin S K h i;
-    waiting = joined (filter_map (number_of origin) (pending-counts c S K h i));
+    waiting = joined (filter_map (number_as_range origin) (pending-counts c S K h i));
   }
 
   same_origins : (c : List ℕ) → origin_entries c K ≡ origin_entries c S

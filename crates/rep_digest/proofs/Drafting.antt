@@ -6,13 +6,13 @@ use Rattle.std.specs.Ordering.{nat_cmp}
 use Rattle.std.proofs.lemmas.Bool.{or_left, or_right, lt-ltb, ne_eqb, and_from, and_parts}
 use Rattle.std.proofs.lemmas.List.Elements.{filter_map-append}
 use Rattle.std.proofs.lemmas.List.Sums.{fold-append}
-use Rattle.sn_tables.specs.inner.Tables.{IsAt, IsGap}
+use Rattle.sn_tables.specs.inner.Tables.{IsFoundAt, IsGap}
 use Rattle.rep_op.specs.declared.op.Put.{Put}
 use Rattle.rep_digest.specs.declared.groups.Acknowledged.{Acknowledged}
 use Rattle.rep_digest.specs.declared.entry.OriginEntry.{OriginEntry}
 use Rattle.rep_digest.specs.Digests.{has_ranges}
 use Rattle.rep_digest.specs.WellMade.{OriginsAscend}
-use Rattle.rep_digest.specs.inner.Steps.{numbers_of, seq_of, with_number, in_ranges_of, drafted, drafted_origins, AreDrafted}
+use Rattle.rep_digest.specs.inner.Steps.{numbers_of, seq_if_own, with_number, in_ranges_of, drafted, drafted_origins, AreDrafted}
 use Rattle.rep_digest.proofs.Occurring.{silent, unchanged, at_place, at_gap, origins_up, none_listed}
 
 -- ---- a number after the others
@@ -75,7 +75,7 @@ module _ (A : List Acknowledged) (P : List Put) where
     ack_others m apart = λ i. record {
       origin = m;
       acknowledged = (numbers_with m None (ap (λ b. if b then Some (a.first, a.last) else None) (ne_eqb m a.origin apart)) ∙ append-nil (filter_map (numbers_of m) A)) i;
-      waiting = in_ranges_of (filter_map (seq_of m) P);
+      waiting = in_ranges_of (filter_map (seq_if_own m) P);
     }
 
     -- the ranges of its origin
@@ -83,19 +83,19 @@ module _ (A : List Acknowledged) (P : List Put) where
     ack_own = numbers_with a.origin (Some (a.first, a.last)) (ap (λ b. if b then Some (a.first, a.last) else None) (eq-eqb a.origin a.origin refl))
 
     ack_some : has_ranges (with_ack a.origin) ≡ true
-    ack_some = or_left (nat_lt 0 (length (filter_map (numbers_of a.origin) (A ++ a ∷ [])))) (nat_lt 0 (length (in_ranges_of (filter_map (seq_of a.origin) P))))
+    ack_some = or_left (nat_lt 0 (length (filter_map (numbers_of a.origin) (A ++ a ∷ [])))) (nat_lt 0 (length (in_ranges_of (filter_map (seq_if_own a.origin) P))))
         (ap (λ (rs : List (ℕ × ℕ)). nat_lt 0 (length rs)) ack_own ∙ some_behind (filter_map (numbers_of a.origin) A) (a.first, a.last))
 
     pub ack_nowhere : (nat_le 1 a.origin && nat_le a.origin 255) ≡ false → drafted_origins (A ++ a ∷ []) P ≡ drafted_origins A P
     ack_nowhere none = unchanged a.origin (drafted A P) with_ack (λ m. refl) ack_others 1 255 (λ m low high. no_gateway a.origin m none low high)
 
-    pub ack_at : (os : List OriginEntry) (at : ℕ) (e : OriginEntry) → IsGateway a.origin → os ≡ drafted_origins A P → IsAt (λ o. nat_cmp o.origin a.origin) os at → e ≡ get_or os at e
+    pub ack_at : (os : List OriginEntry) (at : ℕ) (e : OriginEntry) → IsGateway a.origin → os ≡ drafted_origins A P → IsFoundAt (λ o. nat_cmp o.origin a.origin) os at → e ≡ get_or os at e
         → set os at (record { origin = e.origin; acknowledged = e.acknowledged ++ (a.first, a.last) ∷ []; waiting = e.waiting }) ≡ drafted_origins (A ++ a ∷ []) P
     ack_at os at e gateway is there here =
-        let r = at_place a.origin (drafted A P) with_ack (λ m. refl) ack_others ack_some 1 255 at e gateway.0 (omega (arith, gateway.1)) (subst (λ (x : List OriginEntry). IsAt (λ o. nat_cmp o.origin a.origin) x at) is there) in
+        let r = at_place a.origin (drafted A P) with_ack (λ m. refl) ack_others ack_some 1 255 at e gateway.0 (omega (arith, gateway.1)) (subst (λ (x : List OriginEntry). IsFoundAt (λ o. nat_cmp o.origin a.origin) x at) is there) in
         let own : e ≡ drafted A P a.origin = here ∙ ap (λ (x : List OriginEntry). get_or x at e) is ∙ r.0 in
         (λ i. set (is i) at (record { origin = (own i).origin; acknowledged = (own i).acknowledged ++ (a.first, a.last) ∷ []; waiting = (own i).waiting }))
-        ∙ (λ i. set (drafted_origins A P) at (record { origin = a.origin; acknowledged = sym ack_own i; waiting = in_ranges_of (filter_map (seq_of a.origin) P) }))
+        ∙ (λ i. set (drafted_origins A P) at (record { origin = a.origin; acknowledged = sym ack_own i; waiting = in_ranges_of (filter_map (seq_if_own a.origin) P) }))
         ∙ sym r.1
 
     pub ack_gap : (os : List OriginEntry) (at : ℕ) → IsGateway a.origin → os ≡ drafted_origins A P → IsGap (λ o. nat_cmp o.origin a.origin) os at
@@ -112,10 +112,10 @@ module _ (A : List Acknowledged) (P : List Put) where
     abbrev with_put : ℕ → OriginEntry
     with_put = drafted A (P ++ p ∷ [])
 
-    ranges_with : (m : ℕ) (o : Option ℕ) → seq_of m p ≡ o → in_ranges_of (filter_map (seq_of m) (P ++ p ∷ [])) ≡ fold with_number (in_ranges_of (filter_map (seq_of m) P)) (cons_option o [])
+    ranges_with : (m : ℕ) (o : Option ℕ) → seq_if_own m p ≡ o → in_ranges_of (filter_map (seq_if_own m) (P ++ p ∷ [])) ≡ fold with_number (in_ranges_of (filter_map (seq_if_own m) P)) (cons_option o [])
     ranges_with m o e =
-        ap in_ranges_of (filter_map-append (seq_of m) P (p ∷ []) ∙ ap (λ x. filter_map (seq_of m) P ++ cons_option x []) e)
-        ∙ fold-append with_number [] (filter_map (seq_of m) P) (cons_option o [])
+        ap in_ranges_of (filter_map-append (seq_if_own m) P (p ∷ []) ∙ ap (λ x. filter_map (seq_if_own m) P ++ cons_option x []) e)
+        ∙ fold-append with_number [] (filter_map (seq_if_own m) P) (cons_option o [])
 
     put_others : (m : ℕ) → (m ≡ p.origin → ⊥) → with_put m ≡ drafted A P m
     put_others m apart = λ i. record {
@@ -124,20 +124,20 @@ module _ (A : List Acknowledged) (P : List Put) where
       waiting = ranges_with m None (ap (λ b. if b then Some p.seq else None) (ne_eqb m p.origin apart)) i;
     }
 
-    put_own : in_ranges_of (filter_map (seq_of p.origin) (P ++ p ∷ [])) ≡ with_number (in_ranges_of (filter_map (seq_of p.origin) P)) p.seq
+    put_own : in_ranges_of (filter_map (seq_if_own p.origin) (P ++ p ∷ [])) ≡ with_number (in_ranges_of (filter_map (seq_if_own p.origin) P)) p.seq
     put_own = ranges_with p.origin (Some p.seq) (ap (λ b. if b then Some p.seq else None) (eq-eqb p.origin p.origin refl))
 
     put_some : has_ranges (with_put p.origin) ≡ true
-    put_some = or_right (nat_lt 0 (length (filter_map (numbers_of p.origin) A))) (nat_lt 0 (length (in_ranges_of (filter_map (seq_of p.origin) (P ++ p ∷ [])))))
-        (ap (λ (rs : List (ℕ × ℕ)). nat_lt 0 (length rs)) put_own ∙ some_number (in_ranges_of (filter_map (seq_of p.origin) P)) p.seq)
+    put_some = or_right (nat_lt 0 (length (filter_map (numbers_of p.origin) A))) (nat_lt 0 (length (in_ranges_of (filter_map (seq_if_own p.origin) (P ++ p ∷ [])))))
+        (ap (λ (rs : List (ℕ × ℕ)). nat_lt 0 (length rs)) put_own ∙ some_number (in_ranges_of (filter_map (seq_if_own p.origin) P)) p.seq)
 
     pub put_nowhere : (nat_le 1 p.origin && nat_le p.origin 255) ≡ false → drafted_origins A (P ++ p ∷ []) ≡ drafted_origins A P
     put_nowhere none = unchanged p.origin (drafted A P) with_put (λ m. refl) put_others 1 255 (λ m low high. no_gateway p.origin m none low high)
 
-    pub put_at : (os : List OriginEntry) (at : ℕ) (e : OriginEntry) (waiting : List (ℕ × ℕ)) → IsGateway p.origin → os ≡ drafted_origins A P → IsAt (λ o. nat_cmp o.origin p.origin) os at → e ≡ get_or os at e
+    pub put_at : (os : List OriginEntry) (at : ℕ) (e : OriginEntry) (waiting : List (ℕ × ℕ)) → IsGateway p.origin → os ≡ drafted_origins A P → IsFoundAt (λ o. nat_cmp o.origin p.origin) os at → e ≡ get_or os at e
         → waiting ≡ with_number e.waiting p.seq → set os at (record { origin = e.origin; acknowledged = e.acknowledged; waiting = waiting }) ≡ drafted_origins A (P ++ p ∷ [])
     put_at os at e waiting gateway is there here more =
-        let r = at_place p.origin (drafted A P) with_put (λ m. refl) put_others put_some 1 255 at e gateway.0 (omega (arith, gateway.1)) (subst (λ (x : List OriginEntry). IsAt (λ o. nat_cmp o.origin p.origin) x at) is there) in
+        let r = at_place p.origin (drafted A P) with_put (λ m. refl) put_others put_some 1 255 at e gateway.0 (omega (arith, gateway.1)) (subst (λ (x : List OriginEntry). IsFoundAt (λ o. nat_cmp o.origin p.origin) x at) is there) in
         let own : e ≡ drafted A P p.origin = here ∙ ap (λ (x : List OriginEntry). get_or x at e) is ∙ r.0 in
         (λ i. set (is i) at (record { origin = (own i).origin; acknowledged = (own i).acknowledged; waiting = (more ∙ ap (λ (x : OriginEntry). with_number x.waiting p.seq) own ∙ sym put_own) i }))
         ∙ sym r.1
@@ -147,7 +147,7 @@ module _ (A : List Acknowledged) (P : List Put) where
     put_gap os at gateway is there =
         let r = at_gap p.origin (drafted A P) with_put (λ m. refl) put_others put_some 1 255 at gateway.0 (omega (arith, gateway.1)) (subst (λ (x : List OriginEntry). IsGap (λ o. nat_cmp o.origin p.origin) x at) is there) in
         let none = silent (drafted A P p.origin) r.0 in
-        let waits : (p.seq, p.seq) ∷ [] ≡ in_ranges_of (filter_map (seq_of p.origin) (P ++ p ∷ [])) = ap (λ (rs : List (ℕ × ℕ)). with_number rs p.seq) (sym none.1) ∙ sym put_own in
+        let waits : (p.seq, p.seq) ∷ [] ≡ in_ranges_of (filter_map (seq_if_own p.origin) (P ++ p ∷ [])) = ap (λ (rs : List (ℕ × ℕ)). with_number rs p.seq) (sym none.1) ∙ sym put_own in
         (λ i. insert (is i) at (record { origin = p.origin; acknowledged = sym none.0 i; waiting = waits i })) ∙ sym r.1
 
 -- ---- nothing yet

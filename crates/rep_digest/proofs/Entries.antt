@@ -5,7 +5,7 @@ use Rattle.std.specs.Int.{w16, w32, w64, to_be_bytes}
 use Rattle.std.proofs.lemmas.Bool.{and_parts, and_from, ne_eqb, eqb-false}
 use Rattle.rep_op.specs.ClientIds.{IsClientId}
 use Rattle.rep_op.specs.declared.op.Stamp.{Stamp}
-use Rattle.rep_read.specs.Reading.{both, made, ranged, octet_at, number_at, is_counted, client_at, topic_at, range_at}
+use Rattle.rep_read.specs.Reading.{both, made_from, ranged, octet_at, number_at, is_positive, client_id_at, topic_at, range_at}
 use Rattle.sn_topic.specs.Topics.{IsName}
 use Rattle.rep_op.specs.Sessions.{text_octets}
 use Rattle.rep_op.specs.Spelling.{client_octets}
@@ -19,8 +19,8 @@ use Rattle.rep_digest.specs.declared.entry.ClientEntry.{ClientEntry}
 use Rattle.rep_digest.specs.declared.entry.RetainedEntry.{RetainedEntry}
 use Rattle.rep_digest.specs.Digests.{has_ranges}
 use Rattle.rep_digest.specs.WellMade.{IsRange, IsSeen}
-use Rattle.rep_digest.specs.Spelling.{range_octets, ranges_octets, origin_octets, seen_octets, origins_octets, entry_octets, retained_octets}
-use Rattle.rep_digest.specs.Reading.{ranges_at, origin_of, origin_at, is_seen, stamp_of, seen_at, origins_at, entry_of, entry_at, retained_of, retained_at}
+use Rattle.rep_digest.specs.Spelling.{range_octets, ranges_octets, origin_octets, seen_octets, origins_octets, entry_octets, retained_entry_octets}
+use Rattle.rep_digest.specs.Reading.{ranges_at, origin_of, origin_at, is_seen, stamp_from, seen_at, origins_at, client_entry_from, client_entry_at, retained_entry_from, retained_at}
 
 -- ---- ranges
 
@@ -52,15 +52,15 @@ FitsParts o = IsOne o.origin × (FitsRanges o.acknowledged × FitsRanges o.waiti
 abbrev pub FitsOrigin : OriginEntry → Type 0
 FitsOrigin o = FitsParts o × (has_ranges o ≡ true)
 
-parts_law : Law (made origin_of (both (ranged is_counted octet_at) (both ranges_at ranges_at))) origin_octets FitsParts
+parts_law : Law (made_from origin_of (both (ranged is_positive octet_at) (both ranges_at ranges_at))) origin_octets FitsParts
 parts_law =
-    made_law origin_of (both (ranged is_counted octet_at) (both ranges_at ranges_at)) _ _
-    (both_law (ranged is_counted octet_at) one_octet IsOne one_law (both ranges_at ranges_at) _ _ (both_law ranges_at ranges_octets FitsRanges ranges_law ranges_at ranges_octets FitsRanges ranges_law))
+    made_law origin_of (both (ranged is_positive octet_at) (both ranges_at ranges_at)) _ _
+    (both_law (ranged is_positive octet_at) one_octet IsOne one_law (both ranges_at ranges_at) _ _ (both_law ranges_at ranges_octets FitsRanges ranges_law ranges_at ranges_octets FitsRanges ranges_law))
     origin_octets FitsParts (λ x h. (refl, h)) (λ o h. ((o.origin, (o.acknowledged, o.waiting)), refl, h, refl))
 
 origin_law : Law origin_at origin_octets FitsOrigin
 unfolding origin_at
-origin_law = ranged_law has_ranges (made origin_of (both (ranged is_counted octet_at) (both ranges_at ranges_at))) origin_octets FitsParts parts_law
+origin_law = ranged_law has_ranges (made_from origin_of (both (ranged is_positive octet_at) (both ranges_at ranges_at))) origin_octets FitsParts parts_law
 
 abbrev IsShort : ℕ → Type 0
 IsShort n = n < 2 ^ 16
@@ -93,7 +93,7 @@ seen_law =
     (both_law (number_at w64) (to_be_bytes w64) (λ n. n < 2 ^ 64) (number_law w64 (2 ^ 64) wide64)
     (both octet_at (number_at w16)) _ _ (both_law octet_at one_octet IsOctet octet_law (number_at w16) (to_be_bytes w16) (λ n. n < 2 ^ 16) two_law))
 
-seen_over : (x : Numbers) → FitsSeen x → (seen_text x ≡ seen_octets (stamp_of x) x.1.1) × IsSeen (stamp_of x) x.1.1
+seen_over : (x : Numbers) → FitsSeen x → (seen_text x ≡ seen_octets (stamp_from x) x.1.1) × IsSeen (stamp_from x) x.1.1
 seen_over x h =
     elim (x.0 == 0) as (λ b. (x.0 == 0) ≡ b → (if b then (x.1.0 == 0) && (x.1.1 == 0) else nat_le 1 x.1.0 && nat_le 1 x.1.1 && nat_le x.1.1 256) ≡ true
     → (seen_text x ≡ seen_octets (if b then None else Some (record { epoch = x.0; gateway = x.1.0 })) x.1.1) × IsSeen (if b then None else Some (record { epoch = x.0; gateway = x.1.0 })) x.1.1) [
@@ -114,7 +114,7 @@ numbers_of None prefix = (0, (0, prefix))
 numbers_of (Some s) prefix = (s.epoch, (s.gateway, prefix))
 
 record SeenBack (o : Option Stamp) (prefix : ℕ) : Type 0 where
-  stamp : stamp_of (numbers_of o prefix) ≡ o
+  stamp : stamp_from (numbers_of o prefix) ≡ o
   prefix_is : (numbers_of o prefix).1.1 ≡ prefix
   fits : FitsSeen (numbers_of o prefix)
   text : seen_text (numbers_of o prefix) ≡ seen_octets o prefix
@@ -155,23 +155,23 @@ entry_text x = client_octets x.0 ++ (seen_text x.1.0 ++ origins_octets x.1.1)
 abbrev FitsEntryParts : EntryParts → Type 0
 FitsEntryParts x = IsClientId x.0 × (FitsSeen x.1.0 × FitsOrigins x.1.1)
 
-entry_over : (x : EntryParts) → FitsEntryParts x → (entry_text x ≡ entry_octets (entry_of x)) × FitsEntry (entry_of x)
+entry_over : (x : EntryParts) → FitsEntryParts x → (entry_text x ≡ entry_octets (client_entry_from x)) × FitsEntry (client_entry_from x)
 entry_over x h =
     let s = seen_over x.1.0 h.1.0 in
     (ap (λ (z : List ℕ). client_octets x.0 ++ (z ++ origins_octets x.1.1)) s.0, record { client = h.0; seen = s.1; origins = h.1.1 })
 
-entry_back : (e : ClientEntry) → FitsEntry e → (x : EntryParts) × (entry_of x ≡ e) × FitsEntryParts x × (entry_text x ≡ entry_octets e)
+entry_back : (e : ClientEntry) → FitsEntry e → (x : EntryParts) × (client_entry_from x ≡ e) × FitsEntryParts x × (entry_text x ≡ entry_octets e)
 entry_back e h =
     let b = seen_back e.stamp e.prefix h.seen in
     let x : EntryParts = (e.client, (numbers_of e.stamp e.prefix, e.origins)) in
-    let same : entry_of x ≡ e = λ i. record { client = e.client; stamp = b.stamp i; prefix = b.prefix_is i; origins = e.origins } in
+    let same : client_entry_from x ≡ e = λ i. record { client = e.client; stamp = b.stamp i; prefix = b.prefix_is i; origins = e.origins } in
     (x, same, (h.client, (b.fits, h.origins)), ap (λ (z : List ℕ). client_octets e.client ++ (z ++ origins_octets e.origins)) b.text)
 
-pub entry_law : Law entry_at entry_octets FitsEntry
-unfolding entry_at
+pub entry_law : Law client_entry_at entry_octets FitsEntry
+unfolding client_entry_at
 entry_law =
-    made_law entry_of (both client_at (both seen_at origins_at)) entry_text FitsEntryParts
-    (both_law client_at client_octets IsClientId client_law (both seen_at origins_at) _ _ (both_law seen_at seen_text FitsSeen seen_law origins_at origins_octets FitsOrigins origins_law))
+    made_law client_entry_from (both client_id_at (both seen_at origins_at)) entry_text FitsEntryParts
+    (both_law client_id_at client_octets IsClientId client_law (both seen_at origins_at) _ _ (both_law seen_at seen_text FitsSeen seen_law origins_at origins_octets FitsOrigins origins_law))
     entry_octets FitsEntry entry_over entry_back
 
 -- ---- topics
@@ -179,10 +179,10 @@ entry_law =
 abbrev pub FitsRetained : RetainedEntry → Type 0
 FitsRetained e = IsName e.topic × (IsEight e.clock × IsOne e.gateway)
 
-pub retained_law : Law retained_at retained_octets FitsRetained
+pub retained_law : Law retained_at retained_entry_octets FitsRetained
 unfolding retained_at
 retained_law =
-    made_law retained_of (both topic_at (both (ranged is_counted (number_at w64)) (ranged is_counted octet_at))) _ _
-    (both_law topic_at text_octets IsName topic_law (both (ranged is_counted (number_at w64)) (ranged is_counted octet_at)) _ _
-    (both_law (ranged is_counted (number_at w64)) (to_be_bytes w64) IsEight eight_law (ranged is_counted octet_at) one_octet IsOne one_law))
-    retained_octets FitsRetained (λ x h. (refl, h)) (λ e h. ((e.topic, (e.clock, e.gateway)), refl, h, refl))
+    made_law retained_entry_from (both topic_at (both (ranged is_positive (number_at w64)) (ranged is_positive octet_at))) _ _
+    (both_law topic_at text_octets IsName topic_law (both (ranged is_positive (number_at w64)) (ranged is_positive octet_at)) _ _
+    (both_law (ranged is_positive (number_at w64)) (to_be_bytes w64) IsEight eight_law (ranged is_positive octet_at) one_octet IsOne one_law))
+    retained_entry_octets FitsRetained (λ x h. (refl, h)) (λ e h. ((e.topic, (e.clock, e.gateway)), refl, h, refl))

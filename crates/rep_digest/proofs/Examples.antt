@@ -6,7 +6,7 @@ use Rattle.rep_op.specs.declared.op.Op.{Op}
 use Rattle.rep_op.specs.declared.op.Op.TheVariants.{Session as OfSession}
 use Rattle.rep_model.specs.Views.{gapless}
 use Rattle.rep_digest.specs.Digests.{digest, origin_entries, numbers_from}
-use Rattle.rep_digest.specs.Spelling.{spelling}
+use Rattle.rep_digest.specs.Spelling.{digest_spelling}
 
 -- a client `s1`
 abbrev pub s1 : List ℕ
@@ -21,6 +21,6 @@ abbrev digest_octets : List ℕ
 digest_octets =
     0x01 ∷ 0x00 ∷ 0x00 ∷ 0x00 ∷ 0x01 ∷ 0x02 ∷ 0x73 ∷ 0x31 ∷ 0x00 ∷ 0x00 ∷ 0x00 ∷ 0x00 ∷ 0x00 ∷ 0x00 ∷ 0x00 ∷ 0x01 ∷ 0x01 ∷ 0x00 ∷ 0x01 ∷ 0x00 ∷ 0x00 ∷ []
 
-digest_spelled : spelling (digest (connected ∷ [])) ≡ digest_octets
+digest_spelled : digest_spelling (digest (connected ∷ [])) ≡ digest_octets
 unfolding gapless origin_entries numbers_from
 digest_spelled = refl

@@ -11,7 +11,7 @@ use Rattle.rep_op.specs.declared.fault.OpsFault.TheVariants as faults
 use Rattle.rep_op.specs.declared.version.Version.TheVariants.{One, Two}
 use Rattle.rep_op.specs.Sessions.{text_octets}
 use Rattle.rep_op.specs.Orders.{client_cmp, topic_name_cmp}
-use Rattle.rep_read.specs.Reading.{Reader, ◌>>=◌, both, made, octet_at}
+use Rattle.rep_read.specs.Reading.{Reader, ◌>>=◌, both, made_from, octet_at}
 use Rattle.rep_read.proofs.Laws.{IsBytes, Taken, IsStable, Law, bind_ok, bind_stable, both_law, made_law, ok_is, octet_law}
 use Rattle.rep_ops.specs.Reading.{AreOctets, follows_last, values_at}
 use Rattle.byteorder.specs.Endian.{big_bytes}
@@ -25,10 +25,10 @@ use Rattle.rep_digest.specs.declared.entry.OriginEntry.{OriginEntry}
 use Rattle.rep_digest.specs.declared.entry.ClientEntry.{ClientEntry}
 use Rattle.rep_digest.specs.declared.entry.RetainedEntry.{RetainedEntry}
 use Rattle.rep_digest.specs.Digests.{Digested}
-use Rattle.rep_digest.specs.WellMade.{IsRange, IsOrigin, OriginsAscend, IsEntry, ClientsAscend, AreClients, IsRetained, TopicsAscend, AreTopics, IsDigest}
-use Rattle.rep_digest.specs.Spelling.{ranges_octets, range_octets, origin_octets, seen_octets, origins_octets, entry_octets, retained_octets, topics_octets, spelled, spelling, IsWithinLimit}
-use Rattle.rep_digest.specs.inner.Spelling.{AreFew, IsWritable}
-use Rattle.rep_digest.specs.Reading.{entry_at, retained_at, ranges_apart, are_apart, origins_ascend, is_ordered, is_next, may_follow, topic_may_follow, topics_at, of_clients, of_both, clients_at, digest_at, reading}
+use Rattle.rep_digest.specs.WellMade.{IsRange, IsOriginEntry, OriginsAscend, IsDigestEntry, ClientsAscend, AreClients, IsRetained, TopicsAscend, AreTopics, IsDigest}
+use Rattle.rep_digest.specs.Spelling.{ranges_octets, range_octets, origin_octets, seen_octets, origins_octets, entry_octets, retained_entry_octets, topics_octets, spelled, digest_spelling, IsDigestWithinLimit}
+use Rattle.rep_digest.specs.inner.Spelling.{HaveFewRanges, IsEntryWritable}
+use Rattle.rep_digest.specs.Reading.{client_entry_at, retained_at, ranges_apart, are_apart, origins_ascend, is_ordered, is_client_next, entry_may_follow, topic_may_follow, retained_entries_at, of_clients, of_both, clients_at, digest_at, digest_reading}
 use Rattle.rep_digest.proofs.Entries.{FitsOrigin, FitsEntry, entry_law, FitsRetained, retained_law}
 
 -- ---- the order
@@ -81,28 +81,28 @@ lt_less Less e = refl
 lt_less Equal e = absurd cc
 lt_less Greater e = absurd cc
 
-clients_push : (front : List ClientEntry) (e : ClientEntry) → ClientsAscend front → follows_last is_next front e ≡ true → ClientsAscend (front ++ e ∷ [])
+clients_push : (front : List ClientEntry) (e : ClientEntry) → ClientsAscend front → follows_last is_client_next front e ≡ true → ClientsAscend (front ++ e ∷ [])
 clients_push [] e up t = tt
 clients_push (a ∷ []) e up t = (lt_less (client_cmp a.client e.client) t, tt)
 clients_push (a ∷ b ∷ more) e up t = (up.0, clients_push (b ∷ more) e up.1 t)
 
-clients_from : (front : List ClientEntry) (e : ClientEntry) (new : List ClientEntry) → ClientsAscend (front ++ e ∷ new) → follows_last is_next front e ≡ true
+clients_from : (front : List ClientEntry) (e : ClientEntry) (new : List ClientEntry) → ClientsAscend (front ++ e ∷ new) → follows_last is_client_next front e ≡ true
 clients_from [] e new up = refl
 clients_from (a ∷ []) e new up = ap is_lt up.0
 clients_from (a ∷ b ∷ more) e new up = clients_from (b ∷ more) e new up.1
 
-order : Order may_follow Up
+order : Order entry_may_follow Up
 order = record {
   none = (tt, tt);
   push = λ front e up t.
-      let w = and_parts (is_ordered e) (follows_last is_next front e) t in
+      let w = and_parts (is_ordered e) (follows_last is_client_next front e) t in
       (all-both (λ (x : ClientEntry). is_ordered x ≡ true) front (e ∷ []) up.0 (w.0, tt), clients_push front e up.1 w.1);
-  from = λ front e new up. and_from (is_ordered e) (follows_last is_next front e) (all-right (λ (x : ClientEntry). is_ordered x ≡ true) front (e ∷ new) up.0).0 (clients_from front e new up.1);
+  from = λ front e new up. and_from (is_ordered e) (follows_last is_client_next front e) (all-right (λ (x : ClientEntry). is_ordered x ≡ true) front (e ∷ new) up.0).0 (clients_from front e new up.1);
 }
 
 -- ---- what was read is a digest
 
-an_origin : (o : OriginEntry) → FitsOrigin o → are_apart o ≡ true → IsOrigin o
+an_origin : (o : OriginEntry) → FitsOrigin o → are_apart o ≡ true → IsOriginEntry o
 an_origin o h e =
     let w = and_parts (ranges_apart o.acknowledged) (ranges_apart o.waiting) e in
     record {
@@ -113,16 +113,16 @@ an_origin o h e =
       waiting = (h.0.1.1.1, apart_from o.waiting h.0.1.1.1 w.1);
     }
 
-some_origins : (os : List OriginEntry) → AllByRecursion FitsOrigin os → list_all are_apart os ≡ true → AllByRecursion IsOrigin os
+some_origins : (os : List OriginEntry) → AllByRecursion FitsOrigin os → list_all are_apart os ≡ true → AllByRecursion IsOriginEntry os
 some_origins [] h e = tt
 some_origins (o ∷ os) h e = let w = and_parts (are_apart o) (list_all are_apart os) e in (an_origin o h.0 w.0, some_origins os h.1 w.1)
 
-an_entry : (e : ClientEntry) → FitsEntry e → is_ordered e ≡ true → IsEntry e
+an_entry : (e : ClientEntry) → FitsEntry e → is_ordered e ≡ true → IsDigestEntry e
 an_entry e h t =
     let w = and_parts (list_all are_apart e.origins) (origins_ascend e.origins) t in
     record { client = h.client; seen = h.seen; origins = some_origins e.origins h.origins.1 w.0; ascend = ascend_from e.origins w.1 }
 
-some_entries : (d : List ClientEntry) → AllByRecursion FitsEntry d → AllByRecursion (λ e. is_ordered e ≡ true) d → AllByRecursion IsEntry d
+some_entries : (d : List ClientEntry) → AllByRecursion FitsEntry d → AllByRecursion (λ e. is_ordered e ≡ true) d → AllByRecursion IsDigestEntry d
 some_entries [] h up = tt
 some_entries (e ∷ d) h up = (an_entry e h.0 up.0, some_entries d h.1 up.1)
 
@@ -157,7 +157,7 @@ begins o [] up = (tt, tt)
 begins o (p ∷ os) up = (omega (arith, up.0), up.1)
 
 -- at most one origin for each number
-few_origins : (os : List OriginEntry) (start : ℕ) → AllByRecursion IsOrigin os → OriginsAscend os → BeginsAt start os → start ≤ 256 → length os + start ≤ 256
+few_origins : (os : List OriginEntry) (start : ℕ) → AllByRecursion IsOriginEntry os → OriginsAscend os → BeginsAt start os → start ≤ 256 → length os + start ≤ 256
 few_origins [] start h up low le = omega (arith, le)
 few_origins (o ∷ os) start h up low le =
     let top = h.0.octet in
@@ -171,7 +171,7 @@ few_ranges rs n size le =
     let sum = length-append (big_bytes 4 (length rs)) (flat_map range_octets rs) in
     omega (arith, some, sum, size, le)
 
-fits_origin : (o : OriginEntry) (n : ℕ) → length (origin_octets o) ≤ n → n ≤ max_octets → IsOrigin o → FitsOrigin o
+fits_origin : (o : OriginEntry) (n : ℕ) → length (origin_octets o) ≤ n → n ≤ max_octets → IsOriginEntry o → FitsOrigin o
 fits_origin o n size le h =
     let sum = length-append (ranges_octets o.acknowledged) (ranges_octets o.waiting) in
     let first : length (ranges_octets o.acknowledged) ≤ n = omega (arith, sum, size) in
@@ -187,11 +187,11 @@ followed : {A : Type 0} (P Q : A → Type 0) (xs : List A) → AllByRecursion (�
 followed P Q [] f h = tt
 followed P Q (x ∷ xs) f h = (f.0 h.0, followed P Q xs f.1 h.1)
 
-first_number : (os : List OriginEntry) → AllByRecursion IsOrigin os → BeginsAt 1 os
+first_number : (os : List OriginEntry) → AllByRecursion IsOriginEntry os → BeginsAt 1 os
 first_number [] h = tt
 first_number (o ∷ os) h = h.0.number
 
-fits_entry : (e : ClientEntry) (n : ℕ) → length (entry_octets e) ≤ n → n ≤ max_octets → IsEntry e → FitsEntry e
+fits_entry : (e : ClientEntry) (n : ℕ) → length (entry_octets e) ≤ n → n ≤ max_octets → IsDigestEntry e → FitsEntry e
 fits_entry e n size le h =
     let outer = length-append (client_octets e.client) (seen_octets e.stamp e.prefix ++ origins_octets e.origins) in
     let inner = length-append (seen_octets e.stamp e.prefix) (origins_octets e.origins) in
@@ -203,20 +203,20 @@ fits_entry e n size le h =
       seen = h.seen;
       origins = (
         omega (arith, few),
-        followed IsOrigin FitsOrigin e.origins
-            (each_within origin_octets (λ (o : OriginEntry). IsOrigin o → FitsOrigin o) e.origins n part (λ o s. fits_origin o n s le)) h.origins,
+        followed IsOriginEntry FitsOrigin e.origins
+            (each_within origin_octets (λ (o : OriginEntry). IsOriginEntry o → FitsOrigin o) e.origins n part (λ o s. fits_origin o n s le)) h.origins,
       );
     }
 
-all_apart : (os : List OriginEntry) → AllByRecursion IsOrigin os → list_all are_apart os ≡ true
+all_apart : (os : List OriginEntry) → AllByRecursion IsOriginEntry os → list_all are_apart os ≡ true
 all_apart [] h = refl
 all_apart (o ∷ os) h = and_from (are_apart o) (list_all are_apart os)
     (and_from (ranges_apart o.acknowledged) (ranges_apart o.waiting) (from_apart 0 o.acknowledged h.0.acknowledged.1) (from_apart 0 o.waiting h.0.waiting.1)) (all_apart os h.1)
 
-ordered : (e : ClientEntry) → IsEntry e → is_ordered e ≡ true
+ordered : (e : ClientEntry) → IsDigestEntry e → is_ordered e ≡ true
 ordered e h = and_from (list_all are_apart e.origins) (origins_ascend e.origins) (all_apart e.origins h.origins) (from_ascend e.origins h.ascend)
 
-all_ordered : (d : List ClientEntry) → AllByRecursion IsEntry d → AllByRecursion (λ e. is_ordered e ≡ true) d
+all_ordered : (d : List ClientEntry) → AllByRecursion IsDigestEntry d → AllByRecursion (λ e. is_ordered e ≡ true) d
 all_ordered [] h = tt
 all_ordered (e ∷ d) h = (ordered e h.0, all_ordered d h.1)
 
@@ -227,7 +227,7 @@ fits_text d h size =
     let part : length (flat_map entry_octets d) ≤ max_octets = omega (arith, sum, size) in
     record {
       few = omega (arith, some, part);
-      fits = followed IsEntry FitsEntry d (each_within entry_octets (λ (e : ClientEntry). IsEntry e → FitsEntry e) d max_octets part (λ e s. fits_entry e max_octets s (omega arith))) h.entries;
+      fits = followed IsDigestEntry FitsEntry d (each_within entry_octets (λ (e : ClientEntry). IsDigestEntry e → FitsEntry e) d max_octets part (λ e s. fits_entry e max_octets s (omega arith))) h.entries;
       ascending = (all_ordered d h.entries, h.ascend);
     }
 
@@ -256,11 +256,11 @@ a_topic e h = record {
 of_topic : (e : RetainedEntry) → IsRetained e → FitsRetained e
 of_topic e h = (h.topic, ((h.clock.1, le-leb 1 e.clock h.clock.0), (h.gateway.1, le-leb 1 e.gateway h.gateway.0)))
 
-pub length_topics : (ts : List RetainedEntry) → length ts ≤ length (flat_map retained_octets ts)
+pub length_topics : (ts : List RetainedEntry) → length ts ≤ length (flat_map retained_entry_octets ts)
 length_topics [] = omega arith
 length_topics (e ∷ ts) =
     let more = length_topics ts in
-    let sum = length-append (retained_octets e) (flat_map retained_octets ts) in
+    let sum = length-append (retained_entry_octets e) (flat_map retained_entry_octets ts) in
     let one = length-append (text_octets e.topic) (big_bytes 8 e.clock ++ e.gateway ∷ []) in
     let last = length-append (big_bytes 8 e.clock) (e.gateway ∷ []) in
     omega (arith, more, sum, one, last)
@@ -268,7 +268,7 @@ length_topics (e ∷ ts) =
 pub fits_topics : (ts : List RetainedEntry) → AreTopics ts → length (topics_octets ts) ≤ max_octets → FitsText FitsRetained TopicsAscend ts
 fits_topics ts h size =
     let some = length_topics ts in
-    let sum = length-append (big_bytes 4 (length ts)) (flat_map retained_octets ts) in
+    let sum = length-append (big_bytes 4 (length ts)) (flat_map retained_entry_octets ts) in
     record {
       few = omega (arith, some, sum, size);
       fits = each_weaker IsRetained FitsRetained of_topic ts h.entries;
@@ -287,10 +287,10 @@ abbrev FitsTopics : List RetainedEntry → Type 0
 FitsTopics ts = FitsText FitsRetained TopicsAscend ts
 
 clients_law : Law clients_at clients_text FitsClients
-clients_law = values_law entry_at entry_octets FitsEntry entry_law may_follow Up order
+clients_law = values_law client_entry_at entry_octets FitsEntry entry_law entry_may_follow Up order
 
 listed_law : Law (values_at retained_at topic_may_follow) topics_octets FitsTopics
-listed_law = values_law retained_at retained_octets FitsRetained retained_law topic_may_follow TopicsAscend topics_order
+listed_law = values_law retained_at retained_entry_octets FitsRetained retained_law topic_may_follow TopicsAscend topics_order
 
 abbrev if_some : List RetainedEntry × List ℕ → Result (List RetainedEntry × List ℕ) OpsFault
 if_some x = cond (length x.0 == 0) (Err faults.Version) (Ok x)
@@ -309,8 +309,8 @@ some_stable false x more = inr refl
 abbrev AreSome : List RetainedEntry → Type 0
 AreSome ts = FitsTopics ts × ((length ts == 0) ≡ false)
 
-topics_law : Law topics_at topics_octets AreSome
-unfolding topics_at
+topics_law : Law retained_entries_at topics_octets AreSome
+unfolding retained_entries_at
 topics_law = record {
   takes = λ bytes x fits e.
       let b = bind_ok (values_at retained_at topic_may_follow bytes) if_some x e in
@@ -325,7 +325,7 @@ topics_law = record {
 abbrev FitsAlone : Digested → Type 0
 FitsAlone d = FitsClients d.clients × (d.topics ≡ [])
 
-alone_law : Law (made of_clients clients_at) (λ d. clients_text d.clients) FitsAlone
+alone_law : Law (made_from of_clients clients_at) (λ d. clients_text d.clients) FitsAlone
 alone_law = made_law of_clients clients_at clients_text FitsClients clients_law (λ d. clients_text d.clients) FitsAlone
     (λ cs h. (refl, (h, refl))) (λ d h. (d.clients, (λ i. record { clients = d.clients; topics = sym h.1 i }), h.0, refl))
 
@@ -335,9 +335,9 @@ FitsBoth d = FitsClients d.clients × AreSome d.topics
 abbrev both_text : Digested → List ℕ
 both_text d = clients_text d.clients ++ topics_octets d.topics
 
-two_law : Law (made of_both (both clients_at topics_at)) both_text FitsBoth
-two_law = made_law of_both (both clients_at topics_at) (λ x. clients_text x.0 ++ topics_octets x.1) (λ x. FitsClients x.0 × AreSome x.1)
-    (both_law clients_at clients_text FitsClients clients_law topics_at topics_octets AreSome topics_law) both_text FitsBoth
+two_law : Law (made_from of_both (both clients_at retained_entries_at)) both_text FitsBoth
+two_law = made_law of_both (both clients_at retained_entries_at) (λ x. clients_text x.0 ++ topics_octets x.1) (λ x. FitsClients x.0 × AreSome x.1)
+    (both_law clients_at clients_text FitsClients clients_law retained_entries_at topics_octets AreSome topics_law) both_text FitsBoth
     (λ x h. (refl, h)) (λ d h. ((d.clients, d.topics), refl, h, refl))
 
 abbrev pub FitsDigest : Digested → Type 0
@@ -350,7 +350,7 @@ spelled_two : (cs : List ClientEntry) (ts : List RetainedEntry) → (length ts =
 spelled_two cs [] e = absurd (let wrong : true ≡ false = e in cc)
 spelled_two cs (t ∷ ts) e = refl
 
-took_one : (octet : ℕ) (bytes after : List ℕ) (x : Digested × List ℕ) → octet ≡ 1 → bytes ≡ octet ∷ after → IsBytes after → made of_clients clients_at after ≡ Ok x → Taken spelling FitsDigest bytes x
+took_one : (octet : ℕ) (bytes after : List ℕ) (x : Digested × List ℕ) → octet ≡ 1 → bytes ≡ octet ∷ after → IsBytes after → made_from of_clients clients_at after ≡ Ok x → Taken digest_spelling FitsDigest bytes x
 took_one octet bytes after x is parts fits e =
     let t = alone_law.takes after x fits e in
     let none = t.fits.1 in
@@ -360,7 +360,7 @@ took_one octet bytes after x is parts fits e =
       fits = (t.fits.0, subst FitsTopics (sym none) no_topics);
     }
 
-took_two : (octet : ℕ) (bytes after : List ℕ) (x : Digested × List ℕ) → octet ≡ 2 → bytes ≡ octet ∷ after → IsBytes after → made of_both (both clients_at topics_at) after ≡ Ok x → Taken spelling FitsDigest bytes x
+took_two : (octet : ℕ) (bytes after : List ℕ) (x : Digested × List ℕ) → octet ≡ 2 → bytes ≡ octet ∷ after → IsBytes after → made_from of_both (both clients_at retained_entries_at) after ≡ Ok x → Taken digest_spelling FitsDigest bytes x
 took_two octet bytes after x is parts fits e =
     let t = two_law.takes after x fits e in
     record {
@@ -370,19 +370,19 @@ took_two octet bytes after x is parts fits e =
     }
 
 abbrev by_version : ℕ × List ℕ → Result (Digested × List ℕ) OpsFault
-by_version x = cond (x.0 == 1) (made of_clients clients_at x.1) (cond (x.0 == 2) (made of_both (both clients_at topics_at) x.1) (Err faults.Version))
+by_version x = cond (x.0 == 1) (made_from of_clients clients_at x.1) (cond (x.0 == 2) (made_from of_both (both clients_at retained_entries_at) x.1) (Err faults.Version))
 
-digest_takes : (bytes : List ℕ) (x : Digested × List ℕ) → IsBytes bytes → digest_at bytes ≡ Ok x → Taken spelling FitsDigest bytes x
+digest_takes : (bytes : List ℕ) (x : Digested × List ℕ) → IsBytes bytes → digest_at bytes ≡ Ok x → Taken digest_spelling FitsDigest bytes x
 unfolding digest_at
 digest_takes bytes x fits e =
     let b = bind_ok (octet_at bytes) by_version x e in
     let t = octet_law.takes bytes b.0 fits b.1 in
     elim (cases_Bool (b.0.0 == 1)) [
-      | inl one ↦ (let read : made of_clients clients_at b.0.1 ≡ Ok x = rw one at b.2 in took_one b.0.0 bytes b.0.1 x (eqb-true _ _ one) t.parts t.rest read)
+      | inl one ↦ (let read : made_from of_clients clients_at b.0.1 ≡ Ok x = rw one at b.2 in took_one b.0.0 bytes b.0.1 x (eqb-true _ _ one) t.parts t.rest read)
       | inr not_one ↦ (
-          let next : cond (b.0.0 == 2) (made of_both (both clients_at topics_at) b.0.1) (Err faults.Version) ≡ Ok x = rw not_one at b.2 in
+          let next : cond (b.0.0 == 2) (made_from of_both (both clients_at retained_entries_at) b.0.1) (Err faults.Version) ≡ Ok x = rw not_one at b.2 in
           elim (cases_Bool (b.0.0 == 2)) [
-            | inl two ↦ (let read : made of_both (both clients_at topics_at) b.0.1 ≡ Ok x = rw two at next in took_two b.0.0 bytes b.0.1 x (eqb-true _ _ two) t.parts t.rest read)
+            | inl two ↦ (let read : made_from of_both (both clients_at retained_entries_at) b.0.1 ≡ Ok x = rw two at next in took_two b.0.0 bytes b.0.1 x (eqb-true _ _ two) t.parts t.rest read)
             | inr neither ↦ absurd (let wrong : Err faults.Version ≡ Ok x = rw neither at next in cc)
           ])
     ]
@@ -405,7 +405,7 @@ version_stable octet after more =
       ])
     ]
 
-pub digest_law : Law digest_at spelling FitsDigest
+pub digest_law : Law digest_at digest_spelling FitsDigest
 unfolding digest_at
 digest_law = record {
   takes = digest_takes;
@@ -427,7 +427,7 @@ topics_within cs (e ∷ ts) =
     let sum = length-append (text_of Two entry_octets cs) (topics_octets (e ∷ ts)) in
     omega (arith, sum)
 
-pub fits_digest : (d : Digested) → IsDigest d → IsWithinLimit d → FitsDigest d
+pub fits_digest : (d : Digested) → IsDigest d → IsDigestWithinLimit d → FitsDigest d
 fits_digest d h size =
     let front = clients_within d.clients d.topics in
     let back = topics_within d.clients d.topics in
@@ -435,21 +435,21 @@ fits_digest d h size =
 
 -- ---- what is written has counts that fit
 
-few_origin : (o : OriginEntry) → FitsOrigin o → AreFew o
+few_origin : (o : OriginEntry) → FitsOrigin o → HaveFewRanges o
 few_origin o h = (h.0.1.0.0, h.0.1.1.0)
 
-a_writable : (e : ClientEntry) → FitsEntry e → IsWritable e
-a_writable e h = record { origins = h.origins.0; ranges = each_weaker FitsOrigin AreFew few_origin e.origins h.origins.1 }
+a_writable : (e : ClientEntry) → FitsEntry e → IsEntryWritable e
+a_writable e h = record { origins = h.origins.0; ranges = each_weaker FitsOrigin HaveFewRanges few_origin e.origins h.origins.1 }
 
-pub writable : (d : List ClientEntry) → AreClients d → length (text_of One entry_octets d) ≤ max_octets → AllByRecursion IsWritable d
-writable d h size = each_weaker FitsEntry IsWritable a_writable d (fits_text d h size).fits
+pub writable : (d : List ClientEntry) → AreClients d → length (text_of One entry_octets d) ≤ max_octets → AllByRecursion IsEntryWritable d
+writable d h size = each_weaker FitsEntry IsEntryWritable a_writable d (fits_text d h size).fits
 
 -- ---- the whole
 
 -- what is read is a digest, written so
-pub read_spelled : (bytes : List ℕ) (d : Digested) → AreOctets bytes → reading bytes ≡ Ok d → IsDigest d × IsWithinLimit d × (bytes ≡ spelling d)
+pub read_spelled : (bytes : List ℕ) (d : Digested) → AreOctets bytes → digest_reading bytes ≡ Ok d → IsDigest d × IsDigestWithinLimit d × (bytes ≡ digest_spelling d)
 read_spelled bytes d octets e =
-    let w = takes digest_at spelling FitsDigest digest_law bytes d octets e in (
+    let w = takes digest_at digest_spelling FitsDigest digest_law bytes d octets e in (
       record {
         clients = record { entries = some_entries d.clients w.1.0.fits w.1.0.ascending.0; ascend = w.1.0.ascending.1 };
         topics = record { entries = each_weaker FitsRetained IsRetained a_topic d.topics w.1.1.fits; ascend = w.1.1.ascending };
@@ -459,5 +459,5 @@ read_spelled bytes d octets e =
     )
 
 -- and what is written is read
-pub read_again : (d : Digested) → IsDigest d → IsWithinLimit d → reading (spelling d) ≡ Ok d
-read_again d h size = again digest_at spelling FitsDigest digest_law d (fits_digest d h size) size
+pub read_again : (d : Digested) → IsDigest d → IsDigestWithinLimit d → digest_reading (digest_spelling d) ≡ Ok d
+read_again d h size = again digest_at digest_spelling FitsDigest digest_law d (fits_digest d h size) size

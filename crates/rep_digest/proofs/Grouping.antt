@@ -8,7 +8,7 @@ use Rattle.rep_op.specs.declared.op.Op.{Op}
 use Rattle.rep_op.specs.declared.op.Op.TheVariants.{Ack}
 use Rattle.rep_op.specs.Orders.{client_cmp}
 use Rattle.rep_op.specs.Sets.{same_client}
-use Rattle.sn_tables.specs.inner.Tables.{AllAbove, IsAt, IsGap}
+use Rattle.sn_tables.specs.inner.Tables.{AllAbove, IsFoundAt, IsGap}
 use Rattle.sn_tables.proofs.Ascending.{Ascends}
 use Rattle.rep_digest.specs.declared.groups.Acknowledged.{Acknowledged}
 use Rattle.rep_digest.specs.inner.Steps.{acknowledged_by, group, groups}
@@ -59,7 +59,7 @@ module _ (W : List Op) (d : List ℕ) (origin first last : ℕ) where
   nowhere (c ∷ cs) (suc at) h = λ i. other W the_ack c (apart c Less h.0 refl) i ∷ nowhere cs at h.1 i
 
   -- its client is there
-  pub at_place : (cs : List (List ℕ)) (at : ℕ) (none : List Acknowledged) → IsAt (λ c. client_cmp c d) cs at
+  pub at_place : (cs : List (List ℕ)) (at : ℕ) (none : List Acknowledged) → IsFoundAt (λ c. client_cmp c d) cs at
       → groups cs (W ++ the_ack ∷ []) ≡ set (groups cs W) at (get_or (groups cs W) at none ++ the_range ∷ [])
   at_place [] at none h = absurd h
   at_place (c ∷ cs) zero none h = λ i. own W the_ack c the_range (here c h.0) i ∷ above cs h.1 i

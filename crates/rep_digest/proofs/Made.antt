@@ -14,7 +14,7 @@ use Rattle.rep_op.specs.Orders.{client_cmp, operation_cmp, put_cmp, stamp_cmp}
 use Rattle.rep_op.specs.Sets.{same_client, operation_of, operation_at, put_of, put_at, acknowledges, is_acknowledged}
 use Rattle.rep_ops.specs.Making.{AreWellMade}
 use Rattle.rep_op.specs.WellMade.{is_well_made}
-use Rattle.rep_op.specs.Values.{AreValues, IsValue}
+use Rattle.rep_op.specs.Values.{AreValues, IsOpValue}
 use Rattle.rep_model.specs.Views.{gapless, then_more, visible, history_at, history, pending, clients, names_client, is_named}
 use Rattle.rep_model.specs.Limits.{acknowledged}
 use Rattle.rep_model.specs.Ranges.{in_ranges, is_within, AreApartFrom, AreApart}
@@ -25,8 +25,8 @@ use Rattle.rep_model.proofs.Ranges.{apart-joined}
 use Rattle.rep_model.proofs.Greatest.{has, greatest-has}
 use Rattle.rep_model.proofs.Named.{clients-named, clients-ascend}
 use Rattle.rep_model.proofs.Limits.{in-acknowledged, apart-acknowledged}
-use Rattle.rep_digest.specs.Digests.{number_of, waiting, origin_entry, has_ranges, numbers_from, origin_entries, client_entry, client_entries, digest}
-use Rattle.rep_digest.specs.WellMade.{IsRange, IsOrigin, IsSeen, IsEntry, ClientsAscend, AreClients, IsDigest}
+use Rattle.rep_digest.specs.Digests.{number_as_range, waiting, origin_entry, has_ranges, numbers_from, origin_entries, client_entry, client_entries, digest}
+use Rattle.rep_digest.specs.WellMade.{IsRange, IsOriginEntry, IsSeen, IsDigestEntry, ClientsAscend, AreClients, IsDigest}
 use Rattle.rep_digest.proofs.Waiting.{waiting_there}
 use Rattle.rep_digest.proofs.Said.{are_numbers}
 use Rattle.rep_digest.proofs.Occurring.{origins_up}
@@ -42,7 +42,7 @@ abbrev IsNumber : ℕ → Type 0
 IsNumber n = (1 ≤ n) × (n < 2 ^ 64)
 
 module _ (c : List ℕ) where
-  one_stamp : (op : Op) → IsTrue (is_well_made op) → IsValue op → IfSome (operation_of c op) (λ e. IsStampValue e.0.0)
+  one_stamp : (op : Op) → IsTrue (is_well_made op) → IsOpValue op → IfSome (operation_of c op) (λ e. IsStampValue e.0.0)
   one_stamp (OfSession d s i change) m v =
       let w = and_parts _ _ m in
       let x = and_parts _ _ w.0 in
@@ -55,7 +55,7 @@ module _ (c : List ℕ) where
   one_stamp (Ack d o f l) m v = tt
   one_stamp (OfRetain t k) m v = tt
 
-  one_put : (op : Op) → IsTrue (is_well_made op) → IsValue op → IfSome (put_of c op) (λ e. IsNumber e.0.0)
+  one_put : (op : Op) → IsTrue (is_well_made op) → IsOpValue op → IfSome (put_of c op) (λ e. IsNumber e.0.0)
   one_put (OfSession d s i change) m v = tt
   one_put (OfPut d p) m v =
       let u = and_parts _ _ m in
@@ -68,7 +68,7 @@ module _ (c : List ℕ) where
   one_put (Ack d o f l) m v = tt
   one_put (OfRetain t k) m v = tt
 
-  one_ack : (name : ℕ × ℕ) (op : Op) → IsTrue (is_well_made op) → IsValue op → acknowledges c name op ≡ true → IsNumber name.0
+  one_ack : (name : ℕ × ℕ) (op : Op) → IsTrue (is_well_made op) → IsOpValue op → acknowledges c name op ≡ true → IsNumber name.0
   one_ack name (OfSession d s i change) m v e = absurd (true≢false (sym e))
   one_ack name (OfPut d p) m v e = absurd (true≢false (sym e))
   one_ack name (OfRetain t k) m v e = absurd (true≢false (sym e))
@@ -94,12 +94,12 @@ module _ (W : List Op) (made : AreWellMade W) (values : AreValues W) where
   stamp_there : (c : List ℕ) (name : Stamp × ℕ) → is_some (operation_at c W name) ≡ true → IsStampValue name.0
   stamp_there c name e = found_value (operation_at c W name) (IsStampValue name.0)
       (find-all operation_cmp operation_exact (operation_of c) (λ n _. IsStampValue n.0) W
-      (paired (λ op. IsTrue (is_well_made op)) IsValue (λ op. IfSome (operation_of c op) (λ e. IsStampValue e.0.0)) (one_stamp c) W made values) name) e
+      (paired (λ op. IsTrue (is_well_made op)) IsOpValue (λ op. IfSome (operation_of c op) (λ e. IsStampValue e.0.0)) (one_stamp c) W made values) name) e
 
   put_there : (c : List ℕ) (name : ℕ × ℕ) → is_some (put_at c W name) ≡ true → IsNumber name.0
   put_there c name e = found_value (put_at c W name) (IsNumber name.0)
       (find-all put_cmp put_exact (put_of c) (λ n _. IsNumber n.0) W
-      (paired (λ op. IsTrue (is_well_made op)) IsValue (λ op. IfSome (put_of c op) (λ e. IsNumber e.0.0)) (one_put c) W made values) name) e
+      (paired (λ op. IsTrue (is_well_made op)) IsOpValue (λ op. IfSome (put_of c op) (λ e. IsNumber e.0.0)) (one_put c) W made values) name) e
 
   ack_there : (c : List ℕ) (name : ℕ × ℕ) (V : List Op) → AreWellMade V → AreValues V → is_acknowledged c V name ≡ true → IsNumber name.0
   ack_there c name [] m v e = absurd (true≢false (sym e))
@@ -110,7 +110,7 @@ module _ (W : List Op) (made : AreWellMade W) (values : AreValues W) where
       ] refl e
 
   apart-waiting : (c : List ℕ) (o : ℕ) → AreApart (waiting c o W)
-  apart-waiting c o = apart-joined (filter_map (number_of o) (pending c W)) (are_numbers o (pending c W))
+  apart-waiting c o = apart-joined (filter_map (number_as_range o) (pending c W)) (are_numbers o (pending c W))
 
   -- ---- ranges
 
@@ -122,7 +122,7 @@ module _ (W : List Op) (made : AreWellMade W) (values : AreValues W) where
       let high = each r.1 (or_left (is_within r.1 r) (in_ranges r.1 rs) (and_from (nat_le r.0 r.1) (nat_le r.1 r.1) (le-leb r.0 r.1 h.1) (le-leb r.1 r.1 (omega arith)))) in
       (record { first = low.0; last = h.1; wide = high.1 }, are_ranges c (r.1 + 2) rs h.2 (λ n e. each n (or_right (is_within n r) (in_ranges n rs) e)))
 
-  an_origin : (c : List ℕ) (o : ℕ) → 1 ≤ o → o < 256 → has_ranges (origin_entry c W o) ≡ true → IsOrigin (origin_entry c W o)
+  an_origin : (c : List ℕ) (o : ℕ) → 1 ≤ o → o < 256 → has_ranges (origin_entry c W o) ≡ true → IsOriginEntry (origin_entry c W o)
   an_origin c o low high some = record {
     number = low;
     octet = high;
@@ -131,12 +131,12 @@ module _ (W : List Op) (made : AreWellMade W) (values : AreValues W) where
     waiting = (are_ranges c 0 (waiting c o W) (apart-waiting c o) (λ n e. put_there c (n, o) (waiting_there c o n W e)), apart-waiting c o);
   }
 
-  origins_made : (c : List ℕ) (start n : ℕ) → 1 ≤ start → start + n ≤ 256 → AllByRecursion IsOrigin (filter has_ranges (map (origin_entry c W) (numbers_from start n)))
+  origins_made : (c : List ℕ) (start n : ℕ) → 1 ≤ start → start + n ≤ 256 → AllByRecursion IsOriginEntry (filter has_ranges (map (origin_entry c W) (numbers_from start n)))
   unfolding numbers_from
   origins_made c start zero low high = tt
   origins_made c start (suc n) low high =
       let rest = origins_made c (start + 1) n (omega (arith, low)) (omega (arith, high)) in
-      elim (has_ranges (origin_entry c W start)) as (λ b. has_ranges (origin_entry c W start) ≡ b → AllByRecursion IsOrigin (cond b (origin_entry c W start ∷ filter has_ranges (map (origin_entry c W) (numbers_from (start + 1) n))) (filter has_ranges (map (origin_entry c W) (numbers_from (start + 1) n))))) [
+      elim (has_ranges (origin_entry c W start)) as (λ b. has_ranges (origin_entry c W start) ≡ b → AllByRecursion IsOriginEntry (cond b (origin_entry c W start ∷ filter has_ranges (map (origin_entry c W) (numbers_from (start + 1) n))) (filter has_ranges (map (origin_entry c W) (numbers_from (start + 1) n))))) [
         | true ↦ λ some. (an_origin c start low (omega (arith, high)) some, rest)
         | false ↦ λ _. rest
       ] refl
@@ -170,7 +170,7 @@ module _ (W : List Op) (made : AreWellMade W) (values : AreValues W) where
       one : (c d : List ℕ) → same_client c d ≡ true → IsClientId d → IsClientId c
       one c d e h = subst IsClientId (sym (same_client-true c d e)) h
 
-      client_value : (c : List ℕ) (op : Op) → IsValue op → names_client c op ≡ true → IsClientId c
+      client_value : (c : List ℕ) (op : Op) → IsOpValue op → names_client c op ≡ true → IsClientId c
       client_value c (OfSession d s i change) v e = one c d e v.0
       client_value c (OfPut d p) v e = one c d e v.0
       client_value c (Ack d o f l) v e = one c d (and_parts (same_client c d) (nat_le f l) e).0 v.0
@@ -184,7 +184,7 @@ module _ (W : List Op) (made : AreWellMade W) (values : AreValues W) where
             | false ↦ λ _ rest. named_in c V v.1 rest
           ] refl e
 
-  entry_made : (c : List ℕ) → is_named c W ≡ true → IsEntry (client_entry W c)
+  entry_made : (c : List ℕ) → is_named c W ≡ true → IsDigestEntry (client_entry W c)
   unfolding origin_entries
   entry_made c named = record {
     client = client_made c named;
@@ -193,7 +193,7 @@ module _ (W : List Op) (made : AreWellMade W) (values : AreValues W) where
     ascend = (origins_up (origin_entry c W) (λ m. refl) 1 255).1;
   }
 
-  entries_made : (cs : List (List ℕ)) → AllByRecursion (λ c. is_named c W ≡ true) cs → AllByRecursion IsEntry (map (client_entry W) cs)
+  entries_made : (cs : List (List ℕ)) → AllByRecursion (λ c. is_named c W ≡ true) cs → AllByRecursion IsDigestEntry (map (client_entry W) cs)
   entries_made [] h = tt
   entries_made (c ∷ cs) h = (entry_made c h.0, entries_made cs h.1)
 

@@ -7,7 +7,7 @@ use Rattle.std.proofs.lemmas.Bool.{and_from, or_left, lt-ltb, ne_eqb, eqb-false}
 use Rattle.std.proofs.lemmas.Cmp.{nat_cmp_total}
 use Rattle.rep_op.proofs.Names.{nat_equal, nat_less, same_nat}
 use Rattle.sn_tables.specs.Tables.{is_ascending}
-use Rattle.sn_tables.specs.inner.Tables.{AllAbove, IsAt, IsGap}
+use Rattle.sn_tables.specs.inner.Tables.{AllAbove, IsFoundAt, IsGap}
 use Rattle.sn_tables.proofs.Ascending.{Ascends, from_test}
 use Rattle.sn_tables.proofs.Places.{find_at, find_gap}
 use Rattle.rep_digest.specs.declared.entry.OriginEntry.{OriginEntry}
@@ -40,7 +40,7 @@ module _ (o : ℕ) where
   abbrev pub sought : OriginEntry → Ordering
   sought e = nat_cmp e.origin o
 
-  none_at : (xs : List OriginEntry) (at : ℕ) → AllAbove sought xs → IsAt sought xs at → ⊥
+  none_at : (xs : List OriginEntry) (at : ℕ) → AllAbove sought xs → IsFoundAt sought xs at → ⊥
   none_at [] at up h = h
   none_at (x ∷ xs) zero up h = not_greater (sym h.0 ∙ up.0)
   none_at (x ∷ xs) (suc at) up h = less_greater (sym h.0 ∙ up.0)
@@ -49,14 +49,14 @@ module _ (o : ℕ) where
   none_below [] at up h = h
   none_below (x ∷ xs) at up h = less_greater (sym h.0 ∙ up.0)
 
-  at_here : (b : Bool) (f g d : OriginEntry) (rest more : List OriginEntry) (at : ℕ) → sought f ≡ Equal → AllAbove sought rest → more ≡ rest → IsAt sought (cond b (f ∷ rest) rest) at
+  at_here : (b : Bool) (f g d : OriginEntry) (rest more : List OriginEntry) (at : ℕ) → sought f ≡ Equal → AllAbove sought rest → more ≡ rest → IsFoundAt sought (cond b (f ∷ rest) rest) at
       → (get_or (cond b (f ∷ rest) rest) at d ≡ f) × (g ∷ more ≡ set (cond b (f ∷ rest) rest) at g)
   at_here true f g d rest more zero eq up same h = (refl, ap (λ r. g ∷ r) same)
   at_here true f g d rest more (suc at) eq up same h = absurd (not_less (sym eq ∙ h.0))
   at_here false f g d rest more at eq up same h = absurd (none_at rest at up h)
 
   at_below : (b : Bool) (f g v d : OriginEntry) (rest more : List OriginEntry) (at : ℕ) → sought f ≡ Less
-      → ((i : ℕ) → IsAt sought rest i → (get_or rest i d ≡ v) × (more ≡ set rest i g)) → IsAt sought (cond b (f ∷ rest) rest) at
+      → ((i : ℕ) → IsFoundAt sought rest i → (get_or rest i d ≡ v) × (more ≡ set rest i g)) → IsFoundAt sought (cond b (f ∷ rest) rest) at
       → (get_or (cond b (f ∷ rest) rest) at d ≡ v) × (cond b (f ∷ more) more ≡ set (cond b (f ∷ rest) rest) at g)
   at_below true f g v d rest more zero lt each h = absurd (not_less (sym h.0 ∙ lt))
   at_below true f g v d rest more (suc at) lt each h = let r = each at h.1 in (r.0, ap (λ xs. f ∷ xs) r.1)
@@ -108,7 +108,7 @@ module _ (o : ℕ) where
 
     module _ (some : has_ranges (G o) ≡ true) where
       -- the entry of the origin is there
-      pub at_place : (start n at : ℕ) (d : OriginEntry) → start ≤ o → o < start + n → IsAt sought (listed F start n) at
+      pub at_place : (start n at : ℕ) (d : OriginEntry) → start ≤ o → o < start + n → IsFoundAt sought (listed F start n) at
           → (get_or (listed F start n) at d ≡ F o) × (listed G start n ≡ set (listed F start n) at (G o))
       unfolding numbers_from
       at_place start zero at d low high h = absurd (omega (arith, low, high))
@@ -203,7 +203,7 @@ module _ (o : ℕ) where
   greater_apart : (e : OriginEntry) → sought o e ≡ Greater → (o == e.origin) ≡ false
   greater_apart e h = ne_eqb o e.origin (λ is. not_greater (sym (same_nat e.origin o (sym is)) ∙ h))
 
-  pub found : (os : List OriginEntry) (at : ℕ) (d : OriginEntry) → IsAt (sought o) os at → find (λ e. o == e.origin) os ≡ Some (get_or os at d)
+  pub found : (os : List OriginEntry) (at : ℕ) (d : OriginEntry) → IsFoundAt (sought o) os at → find (λ e. o == e.origin) os ≡ Some (get_or os at d)
   found os at d h = find_at (sought o) (λ e. o == e.origin) passes less_apart greater_apart os at d h
 
   pub absent : (os : List OriginEntry) (at : ℕ) → IsGap (sought o) os at → find (λ e. o == e.origin) os ≡ None

@@ -10,7 +10,7 @@ use Rattle.rep_op.specs.declared.op.Op.{Op}
 use Rattle.rep_op.specs.declared.op.Op.TheVariants.{Session as OfSession, Put as OfPut, Ack, Retain as OfRetain}
 use Rattle.rep_op.specs.Orders.{topic_name_cmp, clock_of, clock_cmp}
 use Rattle.rep_op.specs.Sets.{same_topic, retain_of, retain_at}
-use Rattle.rep_op.specs.Values.{AreValues, IsValue}
+use Rattle.rep_op.specs.Values.{AreValues, IsOpValue}
 use Rattle.rep_op.specs.WellMade.{is_well_made}
 use Rattle.rep_ops.specs.Making.{AreWellMade}
 use Rattle.rep_model.specs.Topics.{latest, retained, topics, told_of, all_retained}
@@ -61,7 +61,7 @@ topics_counted S K h = topics_said K ∙ ap (map entry_for) (all_retained-counts
 -- ---- entries are well made
 
 module _ (t : List ℕ) where
-  one_retain : (op : Op) → IsTrue (is_well_made op) → IsValue op → IfSome (retain_of t op) (λ e. IsRetained (entry_of_topic t e.0))
+  one_retain : (op : Op) → IsTrue (is_well_made op) → IsOpValue op → IfSome (retain_of t op) (λ e. IsRetained (entry_of_topic t e.0))
   one_retain (OfSession c s i change) m v = tt
   one_retain (OfPut c p) m v = tt
   one_retain (Ack c o f l) m v = tt
@@ -94,7 +94,7 @@ module _ (W : List Op) (made : AreWellMade W) (values : AreValues W) where
   retain_there : (t : List ℕ) (name : ℕ × ℕ) → is_some (retain_at t W name) ≡ true → IsRetained (entry_of_topic t name)
   retain_there t name e = found_value (retain_at t W name) (IsRetained (entry_of_topic t name))
       (find-all clock_cmp clock_exact (retain_of t) (λ n _. IsRetained (entry_of_topic t n)) W
-      (paired (λ op. IsTrue (is_well_made op)) IsValue (λ op. IfSome (retain_of t op) (λ e. IsRetained (entry_of_topic t e.0))) (one_retain t) W made values) name) e
+      (paired (λ op. IsTrue (is_well_made op)) IsOpValue (λ op. IfSome (retain_of t op) (λ e. IsRetained (entry_of_topic t e.0))) (one_retain t) W made values) name) e
 
   entries_there : (ts : List (List ℕ)) → AllByRecursion IsRetained (filter_map (topic_entry W) ts)
   entries_there [] = tt

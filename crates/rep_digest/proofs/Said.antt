@@ -20,8 +20,8 @@ use Rattle.rep_model.specs.Ranges.{is_within, in_ranges, AreApartFrom, AreApart}
 use Rattle.rep_model.proofs.Readers.{same_client-true}
 use Rattle.rep_model.proofs.Waiting.{AreUnderNames, waiting_entries, waiting_under, waiting_sorted}
 use Rattle.rep_model.proofs.Ranges.{IsRange, within-parts, in-joined, apart-joined, same_ranges}
-use Rattle.rep_digest.specs.Digests.{number_of, waiting}
-use Rattle.rep_digest.specs.inner.Steps.{acknowledged_by, group, numbers_of, seq_of, with_number, in_ranges_of}
+use Rattle.rep_digest.specs.Digests.{number_as_range, waiting}
+use Rattle.rep_digest.specs.inner.Steps.{acknowledged_by, group, numbers_of, seq_if_own, with_number, in_ranges_of}
 
 -- ---- acknowledgements
 
@@ -207,18 +207,18 @@ listed_ranges ns up = numbers_ranges ns [] tt up (below_nothing ns)
 
 -- ---- the messages of an origin that wait
 
-in_numbers : (o m : ℕ) (puts : List Put) → in_ranges m (filter_map (number_of o) puts) ≡ is_number m (filter_map (seq_of o) puts)
+in_numbers : (o m : ℕ) (puts : List Put) → in_ranges m (filter_map (number_as_range o) puts) ≡ is_number m (filter_map (seq_if_own o) puts)
 in_numbers o m [] = refl
 in_numbers o m (p ∷ puts) =
-    elim (o == p.origin) as (λ b. in_ranges m (cons_option (if b then Some (p.seq, p.seq) else None) (filter_map (number_of o) puts)) ≡ is_number m (cons_option (if b then Some p.seq else None) (filter_map (seq_of o) puts))) [
+    elim (o == p.origin) as (λ b. in_ranges m (cons_option (if b then Some (p.seq, p.seq) else None) (filter_map (number_as_range o) puts)) ≡ is_number m (cons_option (if b then Some p.seq else None) (filter_map (seq_if_own o) puts))) [
       | true ↦ λ i. within_one m p.seq i || in_numbers o m puts i
       | false ↦ in_numbers o m puts
     ]
 
-pub are_numbers : (o : ℕ) (puts : List Put) → AllByRecursion IsRange (filter_map (number_of o) puts)
+pub are_numbers : (o : ℕ) (puts : List Put) → AllByRecursion IsRange (filter_map (number_as_range o) puts)
 are_numbers o [] = tt
 are_numbers o (p ∷ puts) =
-    elim (o == p.origin) as (λ b. AllByRecursion IsRange (cons_option (if b then Some (p.seq, p.seq) else None) (filter_map (number_of o) puts))) [ true ↦ (omega arith, are_numbers o puts) | false ↦ are_numbers o puts ]
+    elim (o == p.origin) as (λ b. AllByRecursion IsRange (cons_option (if b then Some (p.seq, p.seq) else None) (filter_map (number_as_range o) puts))) [ true ↦ (omega arith, are_numbers o puts) | false ↦ are_numbers o puts ]
 
 first : (a b : Bool) → T (a && b) → T a
 first true b p = tt
@@ -236,10 +236,10 @@ less_number a b lt same =
       | Greater ↦ λ _ t. absurd t
     ] refl lt
 
-above_name : (o : ℕ) (name : ℕ × ℕ) (es : List ((ℕ × ℕ) × Put)) → name.1 ≡ o → T (below_all put_cmp name es) → AreUnderNames es → AllByRecursion (λ m. name.0 < m) (filter_map (seq_of o) (map (λ e. e.1) es))
+above_name : (o : ℕ) (name : ℕ × ℕ) (es : List ((ℕ × ℕ) × Put)) → name.1 ≡ o → T (below_all put_cmp name es) → AreUnderNames es → AllByRecursion (λ m. name.0 < m) (filter_map (seq_if_own o) (map (λ e. e.1) es))
 above_name o name [] own below under = tt
 above_name o name (e ∷ es) own below under =
-    elim (o == e.1.origin) as (λ b. (o == e.1.origin) ≡ b → AllByRecursion (λ m. name.0 < m) (cons_option (if b then Some e.1.seq else None) (filter_map (seq_of o) (map (λ e. e.1) es)))) [
+    elim (o == e.1.origin) as (λ b. (o == e.1.origin) ≡ b → AllByRecursion (λ m. name.0 < m) (cons_option (if b then Some e.1.seq else None) (filter_map (seq_if_own o) (map (λ e. e.1) es)))) [
       | true ↦ λ t. (
         less_number name (e.1.seq, e.1.origin) (subst (λ n. T (is_lt (put_cmp name n))) under.0 (first (is_lt (put_cmp name e.0)) (below_all put_cmp name es) below)) (own ∙ eqb-true o e.1.origin t),
         above_name o name es own (second (is_lt (put_cmp name e.0)) (below_all put_cmp name es) below) under.1,
@@ -247,22 +247,22 @@ above_name o name (e ∷ es) own below under =
       | false ↦ λ _. above_name o name es own (second (is_lt (put_cmp name e.0)) (below_all put_cmp name es) below) under.1
     ] refl
 
-sorted_numbers : (o : ℕ) (es : List ((ℕ × ℕ) × Put)) → T (is_sorted put_cmp es) → AreUnderNames es → Ascend (filter_map (seq_of o) (map (λ e. e.1) es))
+sorted_numbers : (o : ℕ) (es : List ((ℕ × ℕ) × Put)) → T (is_sorted put_cmp es) → AreUnderNames es → Ascend (filter_map (seq_if_own o) (map (λ e. e.1) es))
 sorted_numbers o [] sorted under = tt
 sorted_numbers o (e ∷ es) sorted under =
     let below = first (below_all put_cmp e.0 es) (is_sorted put_cmp es) sorted in
     let rest = sorted_numbers o es (second (below_all put_cmp e.0 es) (is_sorted put_cmp es) sorted) under.1 in
-    elim (o == e.1.origin) as (λ b. (o == e.1.origin) ≡ b → Ascend (cons_option (if b then Some e.1.seq else None) (filter_map (seq_of o) (map (λ e. e.1) es)))) [
+    elim (o == e.1.origin) as (λ b. (o == e.1.origin) ≡ b → Ascend (cons_option (if b then Some e.1.seq else None) (filter_map (seq_if_own o) (map (λ e. e.1) es)))) [
       | true ↦ λ t. (
-        subst (λ (n : ℕ × ℕ). AllByRecursion (λ m. n.0 < m) (filter_map (seq_of o) (map (λ e. e.1) es))) under.0
+        subst (λ (n : ℕ × ℕ). AllByRecursion (λ m. n.0 < m) (filter_map (seq_if_own o) (map (λ e. e.1) es))) under.0
             (above_name o e.0 es (ap (λ (n : ℕ × ℕ). n.1) under.0 ∙ sym (eqb-true o e.1.origin t)) below under.1),
         rest,
       )
       | false ↦ λ _. rest
     ] refl
 
-pub waiting_said : (c : List ℕ) (o : ℕ) (S : List Op) → in_ranges_of (filter_map (seq_of o) (pending c S)) ≡ waiting c o S
+pub waiting_said : (c : List ℕ) (o : ℕ) (S : List Op) → in_ranges_of (filter_map (seq_if_own o) (pending c S)) ≡ waiting c o S
 waiting_said c o S =
-    let listed = listed_ranges (filter_map (seq_of o) (pending c S)) (sorted_numbers o (waiting_entries c S) (waiting_sorted c S) (waiting_under c S)) in
-    same_ranges 0 0 (in_ranges_of (filter_map (seq_of o) (pending c S))) (waiting c o S) listed.0 (apart-joined (filter_map (number_of o) (pending c S)) (are_numbers o (pending c S)))
-    (λ m. listed.1 m ∙ sym (in_numbers o m (pending c S)) ∙ sym (in-joined m (filter_map (number_of o) (pending c S))))
+    let listed = listed_ranges (filter_map (seq_if_own o) (pending c S)) (sorted_numbers o (waiting_entries c S) (waiting_sorted c S) (waiting_under c S)) in
+    same_ranges 0 0 (in_ranges_of (filter_map (seq_if_own o) (pending c S))) (waiting c o S) listed.0 (apart-joined (filter_map (number_as_range o) (pending c S)) (are_numbers o (pending c S)))
+    (λ m. listed.1 m ∙ sym (in_numbers o m (pending c S)) ∙ sym (in-joined m (filter_map (number_as_range o) (pending c S))))

@@ -14,17 +14,17 @@ use Rattle.rep_model.proofs.Readers.{put_total}
 use Rattle.rep_model.proofs.Thin.{kept_some, pending_at-reads}
 use Rattle.rep_model.proofs.Waiting.{AreUnderNames, waiting_entries, waiting_under, waiting_found}
 use Rattle.rep_model.proofs.Ranges.{within-parts, in-joined}
-use Rattle.rep_digest.specs.Digests.{number_of, waiting}
+use Rattle.rep_digest.specs.Digests.{number_as_range, waiting}
 
 -- one of the two holds
 pub by_or : {P : Type 0} (x y : Bool) → (x || y) ≡ true → (x ≡ true → P) → (y ≡ true → P) → P
 by_or true y e f g = f refl
 by_or false y e f g = g e
 
-number_found : (seq origin : ℕ) (es : List ((ℕ × ℕ) × Put)) → AreUnderNames es → in_ranges seq (filter_map (number_of origin) (map (λ e. e.1) es)) ≡ true → is_some (find put_cmp (seq, origin) es) ≡ true
+number_found : (seq origin : ℕ) (es : List ((ℕ × ℕ) × Put)) → AreUnderNames es → in_ranges seq (filter_map (number_as_range origin) (map (λ e. e.1) es)) ≡ true → is_some (find put_cmp (seq, origin) es) ≡ true
 number_found seq origin [] all e = absurd (true≢false (sym e))
 number_found seq origin (e ∷ es) all h =
-    let rest = filter_map (number_of origin) (map (λ e. e.1) es) in
+    let rest = filter_map (number_as_range origin) (map (λ e. e.1) es) in
     let more = number_found seq origin es all.1 in
     elim (eq_by_cmp put_cmp (seq, origin) e.0) as (λ b. eq_by_cmp put_cmp (seq, origin) e.0 ≡ b → is_some (cond b (Some e.1) (find put_cmp (seq, origin) es)) ≡ true) [
       | true ↦ λ _. refl
@@ -42,5 +42,5 @@ number_found seq origin (e ∷ es) all h =
 
 pub waiting_there : (c : List ℕ) (origin seq : ℕ) (T : List Op) → in_ranges seq (waiting c origin T) ≡ true → is_some (put_at c T (seq, origin)) ≡ true
 waiting_there c origin seq T e =
-    let found = number_found seq origin (waiting_entries c T) (waiting_under c T) (sym (in-joined seq (filter_map (number_of origin) (pending c T))) ∙ e) in
+    let found = number_found seq origin (waiting_entries c T) (waiting_under c T) (sym (in-joined seq (filter_map (number_as_range origin) (pending c T))) ∙ e) in
     kept_some (not (is_acknowledged c T (seq, origin))) (put_at c T (seq, origin)) (ap is_some (sym (waiting_found c T (seq, origin) ∙ pending_at-reads c T (seq, origin))) ∙ found)

@@ -11,13 +11,13 @@ use Rattle.rep_digest.specs.declared.entry.ClientEntry.{ClientEntry}
 use Rattle.rep_digest.specs.declared.entry.RetainedEntry.{RetainedEntry}
 
 -- the sequence number of a message of the origin, as a range of one
-abbrev pub number_of : ℕ → Put → Option (ℕ × ℕ)
-number_of origin put = if origin == put.origin then Some (put.seq, put.seq) else None
+abbrev pub number_as_range : ℕ → Put → Option (ℕ × ℕ)
+number_as_range origin put = if origin == put.origin then Some (put.seq, put.seq) else None
 
 -- the sequence numbers of an origin's messages that wait for the client, as ranges in ascending
 -- order that do not touch
 abbrev pub waiting : List ℕ → ℕ → List Op → List (ℕ × ℕ)
-waiting c origin S = joined (filter_map (number_of origin) (pending c S))
+waiting c origin S = joined (filter_map (number_as_range origin) (pending c S))
 
 -- what the set says of an origin's messages for the client
 abbrev pub origin_entry : List ℕ → List Op → ℕ → OriginEntry

@@ -8,7 +8,7 @@ use Rattle.rep_op.specs.declared.fault.OpsFault.TheVariants as faults
 use Rattle.rep_op.specs.declared.op.TheConstants.{MAX_OPERATIONS}
 use Rattle.rep_op.specs.declared.op.Stamp.{Stamp}
 use Rattle.rep_op.specs.Orders.{client_cmp, topic_name_cmp}
-use Rattle.rep_read.specs.Reading.{Reader, ◌>>=◌, both, made, ranged, octet_at, number_at, is_counted, client_at, topic_at, range_at, counted_by}
+use Rattle.rep_read.specs.Reading.{Reader, ◌>>=◌, both, made_from, ranged, octet_at, number_at, is_positive, client_id_at, topic_at, range_at, counted_by}
 use Rattle.rep_ops.specs.Reading.{follows_last, values_at, reading_by}
 use Rattle.rep_digest.specs.declared.entry.OriginEntry.{OriginEntry}
 use Rattle.rep_digest.specs.declared.entry.ClientEntry.{ClientEntry}
@@ -28,8 +28,8 @@ origin_of x = record { origin = x.0; acknowledged = x.1.0; waiting = x.1.1 }
 -- an origin with ranges
 unfoldable pub origin_at : Reader OriginEntry
 origin_at =
-    ranged has_ranges (made origin_of
-    (both (ranged is_counted octet_at) (both ranges_at ranges_at)))
+    ranged has_ranges (made_from origin_of
+    (both (ranged is_positive octet_at) (both ranges_at ranges_at)))
 
 -- epoch, gateway and prefix are all 0, or none of them is
 abbrev pub is_seen : ℕ × (ℕ × ℕ) → Bool
@@ -38,8 +38,8 @@ is_seen x =
     else nat_le 1 x.1.0 && nat_le 1 x.1.1 && nat_le x.1.1 MAX_OPERATIONS
 
 -- the visible stamp of an epoch and a gateway; none if the epoch is 0
-abbrev pub stamp_of : ℕ × (ℕ × ℕ) → Option Stamp
-stamp_of x = if x.0 == 0 then None else Some (record { epoch = x.0; gateway = x.1.0 })
+abbrev pub stamp_from : ℕ × (ℕ × ℕ) → Option Stamp
+stamp_from x = if x.0 == 0 then None else Some (record { epoch = x.0; gateway = x.1.0 })
 
 -- what a client's entry says of its session: epoch, gateway, and the length of the prefix
 unfoldable pub seen_at : Reader (ℕ × (ℕ × ℕ))
@@ -50,22 +50,23 @@ unfoldable pub origins_at : Reader (List OriginEntry)
 origins_at = counted_by (number_at w16) origin_at
 
 -- a client's entry, of its name, what it says of the session, and its origins
-abbrev pub entry_of : List ℕ × ((ℕ × (ℕ × ℕ)) × List OriginEntry) → ClientEntry
-entry_of x = record { client = x.0; stamp = stamp_of x.1.0; prefix = x.1.0.1.1; origins = x.1.1 }
+abbrev pub client_entry_from : List ℕ × ((ℕ × (ℕ × ℕ)) × List OriginEntry) → ClientEntry
+client_entry_from x =
+    record { client = x.0; stamp = stamp_from x.1.0; prefix = x.1.0.1.1; origins = x.1.1 }
 
 -- a client's entry: its name, epoch, gateway, prefix, and origins
-unfoldable pub entry_at : Reader ClientEntry
-entry_at = made entry_of (both client_at (both seen_at origins_at))
+unfoldable pub client_entry_at : Reader ClientEntry
+client_entry_at = made_from client_entry_from (both client_id_at (both seen_at origins_at))
 
 -- a topic's entry, of its name, clock and gateway
-abbrev pub retained_of : List ℕ × (ℕ × ℕ) → RetainedEntry
-retained_of x = record { topic = x.0; clock = x.1.0; gateway = x.1.1 }
+abbrev pub retained_entry_from : List ℕ × (ℕ × ℕ) → RetainedEntry
+retained_entry_from x = record { topic = x.0; clock = x.1.0; gateway = x.1.1 }
 
 -- a topic's entry: its name, a clock and a gateway
 unfoldable pub retained_at : Reader RetainedEntry
 retained_at =
-    made retained_of (both topic_at
-    (both (ranged is_counted (number_at w64)) (ranged is_counted octet_at)))
+    made_from retained_entry_from (both topic_at
+    (both (ranged is_positive (number_at w64)) (ranged is_positive octet_at)))
 
 -- ---- the order, looked at when an entry is whole
 
@@ -90,12 +91,12 @@ abbrev pub is_ordered : ClientEntry → Bool
 is_ordered e = list_all are_apart e.origins && origins_ascend e.origins
 
 -- whether the client of the first entry comes before that of the second
-abbrev pub is_next : ClientEntry → ClientEntry → Bool
-is_next a b = is_lt (client_cmp a.client b.client)
+abbrev pub is_client_next : ClientEntry → ClientEntry → Bool
+is_client_next a b = is_lt (client_cmp a.client b.client)
 
 -- whether the entry is in order, and may follow these
-abbrev pub may_follow : List ClientEntry → ClientEntry → Bool
-may_follow entries e = is_ordered e && follows_last is_next entries e
+abbrev pub entry_may_follow : List ClientEntry → ClientEntry → Bool
+entry_may_follow entries e = is_ordered e && follows_last is_client_next entries e
 
 -- whether the topic of the first entry comes before that of the second
 abbrev pub is_next_topic : RetainedEntry → RetainedEntry → Bool
@@ -108,8 +109,8 @@ topic_may_follow entries e = follows_last is_next_topic entries e
 -- ---- the whole
 
 -- entries of topics, which version 2 needs. That there is one is checked after them.
-unfoldable pub topics_at : Reader (List RetainedEntry)
-topics_at bytes =
+unfoldable pub retained_entries_at : Reader (List RetainedEntry)
+retained_entries_at bytes =
     values_at retained_at topic_may_follow bytes >>= λ x.
     if length x.0 == 0 then Err faults.Version else Ok x
 
@@ -123,15 +124,15 @@ of_both x = record { clients = x.0; topics = x.1 }
 
 -- the entries of clients
 abbrev pub clients_at : Reader (List ClientEntry)
-clients_at = values_at entry_at may_follow
+clients_at = values_at client_entry_at entry_may_follow
 
 -- a digest of version 1, after its version
 abbrev pub alone_at : Reader Digested
-alone_at = made of_clients clients_at
+alone_at = made_from of_clients clients_at
 
 -- a digest of version 2, after its version
 abbrev pub both_at : Reader Digested
-both_at = made of_both (both clients_at topics_at)
+both_at = made_from of_both (both clients_at retained_entries_at)
 
 -- the version, the entries of clients, and in version 2 the entries of topics
 unfoldable pub digest_at : Reader Digested
@@ -142,5 +143,5 @@ digest_at bytes =
 
 -- What the octets say, or the first fault for which they are no digest. The order is checked when
 -- an entry is whole.
-abbrev pub reading : List ℕ → Result Digested OpsFault
-reading bytes = reading_by digest_at bytes
+abbrev pub digest_reading : List ℕ → Result Digested OpsFault
+digest_reading bytes = reading_by digest_at bytes

@@ -40,23 +40,23 @@ entry_octets e =
     client_octets e.client ++ (seen_octets e.stamp e.prefix ++ origins_octets e.origins)
 
 -- an entry of a topic: topic, clock and gateway
-abbrev pub retained_octets : RetainedEntry → List ℕ
-retained_octets e = text_octets e.topic ++ (big_bytes 8 e.clock ++ e.gateway ∷ [])
+abbrev pub retained_entry_octets : RetainedEntry → List ℕ
+retained_entry_octets e = text_octets e.topic ++ (big_bytes 8 e.clock ++ e.gateway ∷ [])
 
 -- how many entries of topics there are, and the entries
 abbrev pub topics_octets : List RetainedEntry → List ℕ
-topics_octets topics = big_bytes 4 (length topics) ++ flat_map retained_octets topics
+topics_octets topics = big_bytes 4 (length topics) ++ flat_map retained_entry_octets topics
 
--- the text of the entries of clients, in version 1 if there is no topic, and else in version 2; then
--- the entries of topics
+-- the text of the entries of clients, in version 1 if there is no topic, and else in version 2;
+-- then the entries of topics
 abbrev pub spelled : List ClientEntry → List RetainedEntry → List ℕ
 spelled clients [] = text_of One entry_octets clients
 spelled clients (e ∷ rest) = text_of Two entry_octets clients ++ topics_octets (e ∷ rest)
 
 -- the octets of a digest
-abbrev pub spelling : Digested → List ℕ
-spelling d = spelled d.clients d.topics
+abbrev pub digest_spelling : Digested → List ℕ
+digest_spelling d = spelled d.clients d.topics
 
 -- the octets of the digest are at most 8 MiB
-abbrev pub IsWithinLimit : Digested → Type 0
-IsWithinLimit d = length (spelling d) ≤ max_octets
+abbrev pub IsDigestWithinLimit : Digested → Type 0
+IsDigestWithinLimit d = length (digest_spelling d) ≤ max_octets

@@ -20,7 +20,7 @@ pub record IsRange (r : ℕ × ℕ) : Type 0 where
   pub wide : r.1 < 2 ^ 64
 
 -- an origin 1 to 255 with ranges, which are apart
-pub record IsOrigin (o : OriginEntry) : Type 0 where
+pub record IsOriginEntry (o : OriginEntry) : Type 0 where
   pub number : 1 ≤ o.origin
   pub octet : o.origin < 2 ^ 8
   pub some : IsTrue (has_ranges o)
@@ -42,10 +42,10 @@ OriginsAscend (a ∷ b ∷ rest) = (a.origin < b.origin) × OriginsAscend (b ∷
 
 -- an entry that a digest may have: a client's name, what is visible of its session, and its
 -- origins, ascending
-pub record IsEntry (e : ClientEntry) : Type 0 where
+pub record IsDigestEntry (e : ClientEntry) : Type 0 where
   pub client : IsClientId e.client
   pub seen : IsSeen e.stamp e.prefix
-  pub origins : AllByRecursion IsOrigin e.origins
+  pub origins : AllByRecursion IsOriginEntry e.origins
   pub ascend : OriginsAscend e.origins
 
 -- clients in strictly ascending order
@@ -56,7 +56,7 @@ ClientsAscend (a ∷ b ∷ rest) = (client_cmp a.client b.client ≡ Less) × Cl
 
 -- an entry for each client, in ascending order
 pub record AreClients (d : List ClientEntry) : Type 0 where
-  pub entries : AllByRecursion IsEntry d
+  pub entries : AllByRecursion IsDigestEntry d
   pub ascend : ClientsAscend d
 
 -- an entry of a topic: its name, a clock of 64 bits and a gateway of 8, which begin at 1

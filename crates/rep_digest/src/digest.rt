@@ -1,10 +1,10 @@
 //! A digest.
 
 ghost use Rattle.std.specs.Prelude.{◌≡◌, ◌⊎◌, ◌++◌, Ok, Err, IfOk, IfErr, OnOk, OnErr};
-ghost use Rattle.rep_read.specs.Reading.{Gives};
+ghost use Rattle.rep_read.specs.Reading.{ReadsAs};
 ghost use Rattle.rep_digest.specs.WellMade.{IsDigest};
-ghost use Rattle.rep_digest.specs.Spelling.{spelling, IsWithinLimit};
-ghost use Rattle.rep_digest.specs.Reading.{reading};
+ghost use Rattle.rep_digest.specs.Spelling.{digest_spelling, IsDigestWithinLimit};
+ghost use Rattle.rep_digest.specs.Reading.{digest_reading};
 ghost use Rattle.rep_digest.specs.Digests.{Digested};
 
 use super::entry::{ClientEntry, RetainedEntry};
@@ -15,8 +15,8 @@ use rep_ops::OpsFault;
 use std::alloc::Global;
 use std::marker::Model;
 
-/// What a gateway has taken: an entry for each client and one for each topic, in ascending order. It
-/// is spelled in at most 8,388,608 octets. Contracts see the lists of its entries.
+/// What a gateway has taken: an entry for each client and one for each topic, in ascending order.
+/// It is spelled in at most 8,388,608 octets. Contracts see the lists of its entries.
 #[derive(Drop)]
 pub struct Digest {
     pub(crate) clients: Vec<ClientEntry>,
@@ -25,7 +25,7 @@ pub struct Digest {
 
 impl Model for Digest {
     ghost use Rattle.rep_digest.specs.WellMade.{IsDigest};
-    ghost use Rattle.rep_digest.specs.Spelling.{IsWithinLimit};
+    ghost use Rattle.rep_digest.specs.Spelling.{IsDigestWithinLimit};
     ghost use Rattle.rep_digest.specs.Digests.{Digested, digested};
 
     ghost Value = { Digested };
@@ -33,7 +33,7 @@ impl Model for Digest {
     ghost view = { λ d. digested d.clients.items d.topics.items };
 
     ghost invariant = { λ d. IsDigest (digested d.clients.items d.topics.items)
-        × IsWithinLimit (digested d.clients.items d.topics.items) };
+        × IsDigestWithinLimit (digested d.clients.items d.topics.items) };
 }
 
 impl Digest {
@@ -41,7 +41,7 @@ impl Digest {
     pub fn clients(&self) -> &[ClientEntry]
         ensures entries { result.now ≡ self.now.clients }
         ensures digest { IsDigest self.now }
-        ensures size { IsWithinLimit self.now }
+        ensures size { IsDigestWithinLimit self.now }
     {
         self.clients.as_slice()
     }
@@ -50,14 +50,14 @@ impl Digest {
     pub fn topics(&self) -> &[RetainedEntry]
         ensures entries { result.now ≡ self.now.topics }
         ensures digest { IsDigest self.now }
-        ensures size { IsWithinLimit self.now }
+        ensures size { IsDigestWithinLimit self.now }
     {
         self.topics.as_slice()
     }
 
     /// Appends the one spelling of the digest. On an error the vector is as it was.
     pub fn append_to(&self, out: &mut Vec<u8>) -> Result<(), NoMemory>
-        ensures ok { OnOk result (out.new.items ≡ out.old.items ++ spelling self.now) }
+        ensures ok { OnOk result (out.new.items ≡ out.old.items ++ digest_spelling self.now) }
         ensures err { OnErr result (out.new.items ≡ out.old.items) }
     {
         let start = out.len();
@@ -72,7 +72,7 @@ impl Digest {
 
     /// The same, where want of memory is a fault of operations.
     pub fn encode(&self, _alloc: Global, out: &mut Vec<u8>) -> Result<(), OpsFault>
-        ensures ok { OnOk result (out.new.items ≡ out.old.items ++ spelling self.now) }
+        ensures ok { OnOk result (out.new.items ≡ out.old.items ++ digest_spelling self.now) }
         ensures err { OnErr result (out.new.items ≡ out.old.items) }
         ensures memory { IfErr result (λ fault. fault ≡ OpsFault.Memory) }
     {
@@ -89,12 +89,12 @@ impl Digest {
     /// digest.
     pub fn decode(alloc: Global, bytes: &[u8]) -> Result<Digest, OpsFault>
         // What is read is spelled so.
-        ensures ok { IfOk result (λ d. bytes.now ≡ spelling d) }
+        ensures ok { IfOk result (λ d. bytes.now ≡ digest_spelling d) }
         // What is spelled so is read, unless memory runs out.
-        ensures only { (d : Digested) → IsDigest d → IsWithinLimit d
-            → bytes.now ≡ spelling d → (result ≡ Ok d) ⊎ (result ≡ Err OpsFault.Memory) }
+        ensures only { (d : Digested) → IsDigest d → IsDigestWithinLimit d
+            → bytes.now ≡ digest_spelling d → (result ≡ Ok d) ⊎ (result ≡ Err OpsFault.Memory) }
         // Which fault it is.
-        ensures exact { Gives (λ d. d) result (reading bytes.now) }
+        ensures exact { ReadsAs (λ d. d) result (digest_reading bytes.now) }
     {
         let (clients, topics) = read_digest(alloc, bytes)?;
         Ok(Digest { clients, topics })

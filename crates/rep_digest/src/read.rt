@@ -6,15 +6,15 @@ mod part;
 mod topic;
 
 ghost use Rattle.std.specs.Prelude.{◌≡◌, []};
-ghost use Rattle.rep_read.specs.Reading.{Gives};
+ghost use Rattle.rep_read.specs.Reading.{ReadsAs};
 ghost use Rattle.rep_ops.specs.Reading.{listed_at, values_at};
 ghost use Rattle.rep_digest.specs.Digests.{digested};
-ghost use Rattle.rep_digest.specs.Reading.{entry_at, retained_at, topics_at, digest_at, reading};
+ghost use Rattle.rep_digest.specs.Reading.{client_entry_at, retained_at, retained_entries_at, digest_at, digest_reading};
 ghost use Rattle.rep_digest.specs.Reading as spec;
 
 use super::entry::{ClientEntry, RetainedEntry};
 use entry::read_entry;
-use order::{may_follow, topic_may_follow};
+use order::{entry_may_follow, topic_may_follow};
 use rep_ops::{MAX_OCTETS, OpsFault, read_four, read_octet};
 use std::alloc::Global;
 use topic::read_retained;
@@ -25,14 +25,15 @@ fn read_entries(
     count: u32,
     bytes: &[u8],
 ) -> Result<(Vec<ClientEntry>, &[u8]), OpsFault>
-    ensures { Gives (λ x. (x.0.items, x.1.now)) result (listed_at entry_at spec.may_follow count []
+    ensures { ReadsAs (λ x. (x.0.items, x.1.now)) result
+        (listed_at client_entry_at spec.entry_may_follow count []
         bytes.now) }
 {
     let mut entries = Vec::new(alloc);
     let mut rest = bytes;
     for _ in 0..count {
         let (entry, after) = read_entry(alloc, rest)?;
-        if !may_follow(entries.as_slice(), &entry) {
+        if !entry_may_follow(entries.as_slice(), &entry) {
             drop(entry);
             return Err(OpsFault::Order);
         }
@@ -44,8 +45,8 @@ fn read_entries(
 
 /// The count, and so many entries of clients.
 fn read_clients(alloc: Global, bytes: &[u8]) -> Result<(Vec<ClientEntry>, &[u8]), OpsFault>
-    ensures { Gives (λ x. (x.0.items, x.1.now)) result
-        (values_at entry_at spec.may_follow bytes.now) }
+    ensures { ReadsAs (λ x. (x.0.items, x.1.now)) result
+        (values_at client_entry_at spec.entry_may_follow bytes.now) }
 {
     let (count, rest) = read_four(bytes)?;
     read_entries(alloc, count, rest)
@@ -57,7 +58,8 @@ fn read_topic_entries(
     count: u32,
     bytes: &[u8],
 ) -> Result<(Vec<RetainedEntry>, &[u8]), OpsFault>
-    ensures { Gives (λ x. (x.0.items, x.1.now)) result (listed_at retained_at spec.topic_may_follow
+    ensures { ReadsAs (λ x. (x.0.items, x.1.now)) result
+        (listed_at retained_at spec.topic_may_follow
         count [] bytes.now) }
 {
     let mut entries = Vec::new(alloc);
@@ -76,7 +78,7 @@ fn read_topic_entries(
 
 /// The count, and so many entries of topics.
 fn read_listed(alloc: Global, bytes: &[u8]) -> Result<(Vec<RetainedEntry>, &[u8]), OpsFault>
-    ensures { Gives (λ x. (x.0.items, x.1.now)) result
+    ensures { ReadsAs (λ x. (x.0.items, x.1.now)) result
         (values_at retained_at spec.topic_may_follow bytes.now) }
 {
     let (count, rest) = read_four(bytes)?;
@@ -84,9 +86,9 @@ fn read_listed(alloc: Global, bytes: &[u8]) -> Result<(Vec<RetainedEntry>, &[u8]
 }
 
 /// Entries of topics, of which there is one at least.
-#[tactic(auto, unfolding(crate::specs::Reading::topics_at))]
+#[tactic(auto, unfolding(crate::specs::Reading::retained_entries_at))]
 fn read_topics(alloc: Global, bytes: &[u8]) -> Result<(Vec<RetainedEntry>, &[u8]), OpsFault>
-    ensures { Gives (λ x. (x.0.items, x.1.now)) result (topics_at bytes.now) }
+    ensures { ReadsAs (λ x. (x.0.items, x.1.now)) result (retained_entries_at bytes.now) }
 {
     let (topics, rest) = read_listed(alloc, bytes)?;
     if topics.as_slice().is_empty() {
@@ -100,7 +102,7 @@ fn read_both(
     alloc: Global,
     bytes: &[u8],
 ) -> Result<(Vec<ClientEntry>, Vec<RetainedEntry>, &[u8]), OpsFault>
-    ensures { Gives (λ x. (digested x.0.items x.1.items, x.2.now)) result
+    ensures { ReadsAs (λ x. (digested x.0.items x.1.items, x.2.now)) result
         (spec.both_at bytes.now) }
 {
     let (clients, rest) = read_clients(alloc, bytes)?;
@@ -118,7 +120,7 @@ fn read_alone(
     alloc: Global,
     bytes: &[u8],
 ) -> Result<(Vec<ClientEntry>, Vec<RetainedEntry>, &[u8]), OpsFault>
-    ensures { Gives (λ x. (digested x.0.items x.1.items, x.2.now)) result
+    ensures { ReadsAs (λ x. (digested x.0.items x.1.items, x.2.now)) result
         (spec.alone_at bytes.now) }
 {
     let (clients, rest) = read_clients(alloc, bytes)?;
@@ -131,7 +133,7 @@ fn read_text(
     alloc: Global,
     bytes: &[u8],
 ) -> Result<(Vec<ClientEntry>, Vec<RetainedEntry>, &[u8]), OpsFault>
-    ensures { Gives (λ x. (digested x.0.items x.1.items, x.2.now)) result (digest_at bytes.now) }
+    ensures { ReadsAs (λ x. (digested x.0.items x.1.items, x.2.now)) result (digest_at bytes.now) }
 {
     let (version, rest) = read_octet(bytes)?;
     match version {
@@ -147,7 +149,7 @@ pub fn read_digest(
     alloc: Global,
     bytes: &[u8],
 ) -> Result<(Vec<ClientEntry>, Vec<RetainedEntry>), OpsFault>
-    ensures { Gives (λ x. digested x.0.items x.1.items) result (reading bytes.now) }
+    ensures { ReadsAs (λ x. digested x.0.items x.1.items) result (digest_reading bytes.now) }
 {
     if bytes.len() > MAX_OCTETS {
         return Err(OpsFault::Limit);

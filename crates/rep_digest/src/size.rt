@@ -4,15 +4,15 @@ ghost use Rattle.std.specs.Prelude.{◌≡◌, ◌≤◌, ◌↔◌, length, IsT
 ghost use Rattle.std.specs.List.{flat_map};
 ghost use Rattle.rep_op.specs.ClientIds.{IsClientId};
 ghost use Rattle.rep_ops.specs.Spelling.{max_octets};
-ghost use Rattle.rep_digest.specs.Spelling.{ranges_octets, origin_octets, origins_octets, entry_octets, retained_octets, spelled};
-ghost use Rattle.rep_digest.specs.inner.Spelling.{Leaves, some_topics};
+ghost use Rattle.rep_digest.specs.Spelling.{ranges_octets, origin_octets, origins_octets, entry_octets, retained_entry_octets, spelled};
+ghost use Rattle.rep_digest.specs.inner.Spelling.{LeavesRoom, some_topics};
 
 use super::entry::{ClientEntry, OriginEntry, RetainedEntry};
 use rep_ops::MAX_OCTETS;
 
 /// What ranges leave of so many octets.
 fn after_ranges(room: usize, ranges: &[(u64, u64)]) -> Option<usize>
-    ensures { Leaves (length (ranges_octets ranges.now)) room result }
+    ensures { LeavesRoom (length (ranges_octets ranges.now)) room result }
 {
     let room = room.checked_sub(4)?;
     if ranges.len() > room / 16 {
@@ -23,7 +23,7 @@ fn after_ranges(room: usize, ranges: &[(u64, u64)]) -> Option<usize>
 
 /// What an origin leaves of so many octets.
 fn after_origin(room: usize, origin: &OriginEntry) -> Option<usize>
-    ensures { Leaves (length (origin_octets origin.now)) room result }
+    ensures { LeavesRoom (length (origin_octets origin.now)) room result }
 {
     let room = room.checked_sub(1)?;
     let room = after_ranges(room, origin.acknowledged.as_slice())?;
@@ -32,7 +32,7 @@ fn after_origin(room: usize, origin: &OriginEntry) -> Option<usize>
 
 /// What origins leave of so many octets.
 fn after_each_origin(room: usize, origins: &[OriginEntry]) -> Option<usize>
-    ensures { Leaves (length (flat_map origin_octets origins.now)) room result }
+    ensures { LeavesRoom (length (flat_map origin_octets origins.now)) room result }
 {
     let mut left = room;
     for origin in origins {
@@ -46,7 +46,7 @@ fn after_each_origin(room: usize, origins: &[OriginEntry]) -> Option<usize>
 
 /// What an entry leaves of so many octets.
 fn after_entry(room: usize, entry: &ClientEntry) -> Option<usize>
-    ensures { Leaves (length (entry_octets entry.now)) room result }
+    ensures { LeavesRoom (length (entry_octets entry.now)) room result }
 {
     let room = room.checked_sub(14 + entry.client.bytes().len())?;
     after_each_origin(room, entry.origins.as_slice())
@@ -54,7 +54,7 @@ fn after_entry(room: usize, entry: &ClientEntry) -> Option<usize>
 
 /// What entries of clients leave of so many octets.
 fn after_entries(room: usize, entries: &[ClientEntry]) -> Option<usize>
-    ensures { Leaves (length (flat_map entry_octets entries.now)) room result }
+    ensures { LeavesRoom (length (flat_map entry_octets entries.now)) room result }
 {
     let mut left = room;
     for entry in entries {
@@ -68,14 +68,14 @@ fn after_entries(room: usize, entries: &[ClientEntry]) -> Option<usize>
 
 /// What an entry of a topic leaves of so many octets.
 fn after_topic(room: usize, entry: &RetainedEntry) -> Option<usize>
-    ensures { Leaves (length (retained_octets entry.now)) room result }
+    ensures { LeavesRoom (length (retained_entry_octets entry.now)) room result }
 {
     room.checked_sub(11 + entry.topic.bytes().len())
 }
 
 /// What entries of topics leave of so many octets.
 fn after_topics(room: usize, topics: &[RetainedEntry]) -> Option<usize>
-    ensures { Leaves (length (flat_map retained_octets topics.now)) room result }
+    ensures { LeavesRoom (length (flat_map retained_entry_octets topics.now)) room result }
 {
     let mut left = room;
     for entry in topics {
@@ -89,7 +89,7 @@ fn after_topics(room: usize, topics: &[RetainedEntry]) -> Option<usize>
 
 /// What entries of topics and their count leave of so many octets; all of them if there is none.
 fn after_some_topics(room: usize, topics: &[RetainedEntry]) -> Option<usize>
-    ensures { Leaves (some_topics topics.now) room result }
+    ensures { LeavesRoom (some_topics topics.now) room result }
 {
     if topics.is_empty() {
         return Some(room);

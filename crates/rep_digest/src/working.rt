@@ -9,7 +9,7 @@ ghost use Rattle.rep_model.specs.Views.{view};
 ghost use Rattle.rep_model.specs.Views as views;
 ghost use Rattle.rep_digest.specs.Digests.{client_entries, digested, digest};
 ghost use Rattle.rep_digest.specs.WellMade.{IsDigest};
-ghost use Rattle.rep_digest.specs.Spelling.{spelling};
+ghost use Rattle.rep_digest.specs.Spelling.{digest_spelling};
 ghost use Rattle.rep_digest.specs.inner.Steps.{group, drafted_entry};
 ghost use Rattle.rep_digest.specs.inner.Steps as spec;
 
@@ -31,7 +31,7 @@ pub fn digest_of<R: Replica>(alloc: Global, replica: &R) -> Result<Digest, OpsFa
     ensures ok { IfOk result (λ made. made ≡ digest (R.kept replica.now)) }
     ensures fault { IfErr result (λ fault. (fault ≡ OpsFault.Memory)
         ⊎ ((fault ≡ OpsFault.Limit) × (max_octets
-        < length (spelling (digest (R.kept replica.now)))))) }
+        < length (digest_spelling (digest (R.kept replica.now)))))) }
 {
     let (clients, topics) = worked_out(alloc, replica)?;
     if !is_within_limit(clients.as_slice(), topics.as_slice()) {
@@ -47,7 +47,8 @@ fn worked_out<R: Replica>(
     alloc: Global,
     replica: &R,
 ) -> Result<(Vec<ClientEntry>, Vec<RetainedEntry>), NoMemory>
-    ensures { IfOk result (λ made. (digested made.0.items made.1.items ≡ digest (R.kept replica.now))
+    ensures { IfOk result
+        (λ made. (digested made.0.items made.1.items ≡ digest (R.kept replica.now))
         × IsDigest (digest (R.kept replica.now))) }
 {
     let clients = clients_of(alloc, replica)?;

@@ -9,8 +9,8 @@ ghost use Rattle.rep_write.specs.Writing.{Writes};
 ghost use Rattle.rep_op.specs.declared.version.Version.TheVariants.{One, Two};
 ghost use Rattle.rep_ops.specs.Spelling.{text_of, max_octets};
 ghost use Rattle.rep_digest.specs.WellMade.{AreClients, AreTopics};
-ghost use Rattle.rep_digest.specs.Spelling.{range_octets, ranges_octets, origin_octets, origins_octets, seen_octets, entry_octets, retained_octets, topics_octets, spelled};
-ghost use Rattle.rep_digest.specs.inner.Spelling.{AreFew, IsWritable};
+ghost use Rattle.rep_digest.specs.Spelling.{range_octets, ranges_octets, origin_octets, origins_octets, seen_octets, entry_octets, retained_entry_octets, topics_octets, spelled};
+ghost use Rattle.rep_digest.specs.inner.Spelling.{HaveFewRanges, IsEntryWritable};
 
 use super::entry::{ClientEntry, OriginEntry, RetainedEntry};
 use octets::{NoMemory, append_u16, append_u32, append_u64};
@@ -47,7 +47,7 @@ fn write_ranges(out: &mut Vec<u8>, ranges: &[(u64, u64)]) -> Result<(), NoMemory
 
 /// Writes an origin.
 fn write_origin(out: &mut Vec<u8>, origin: &OriginEntry) -> Result<(), NoMemory>
-    requires { AreFew origin.now }
+    requires { HaveFewRanges origin.now }
     ensures { Writes (origin_octets origin.now) out.old.items out.new.items result }
 {
     out.push(origin.origin)?;
@@ -58,7 +58,7 @@ fn write_origin(out: &mut Vec<u8>, origin: &OriginEntry) -> Result<(), NoMemory>
 
 /// Writes origins one after the other.
 fn write_each_origin(out: &mut Vec<u8>, origins: &[OriginEntry]) -> Result<(), NoMemory>
-    requires { AllByRecursion AreFew origins.now }
+    requires { AllByRecursion HaveFewRanges origins.now }
     ensures { Writes (flat_map origin_octets origins.now) out.old.items out.new.items result }
 {
     for origin in origins {
@@ -90,7 +90,7 @@ fn write_seen(out: &mut Vec<u8>, stamp: Option<Stamp>, prefix: u16) -> Result<()
 
 /// Writes an entry.
 fn write_entry(out: &mut Vec<u8>, entry: &ClientEntry) -> Result<(), NoMemory>
-    requires { IsWritable entry.now }
+    requires { IsEntryWritable entry.now }
     ensures { Writes (entry_octets entry.now) out.old.items out.new.items result }
 {
     write_client(out, &entry.client)?;
@@ -102,7 +102,7 @@ fn write_entry(out: &mut Vec<u8>, entry: &ClientEntry) -> Result<(), NoMemory>
 
 /// Writes entries one after the other.
 fn write_entries(out: &mut Vec<u8>, entries: &[ClientEntry]) -> Result<(), NoMemory>
-    requires { AllByRecursion IsWritable entries.now }
+    requires { AllByRecursion IsEntryWritable entries.now }
     ensures { Writes (flat_map entry_octets entries.now) out.old.items out.new.items result }
 {
     for entry in entries {
@@ -125,7 +125,7 @@ fn write_clients(out: &mut Vec<u8>, entries: &[ClientEntry]) -> Result<(), NoMem
 
 /// Writes an entry of a topic.
 fn write_topic(out: &mut Vec<u8>, entry: &RetainedEntry) -> Result<(), NoMemory>
-    ensures { Writes (retained_octets entry.now) out.old.items out.new.items result }
+    ensures { Writes (retained_entry_octets entry.now) out.old.items out.new.items result }
 {
     write_text(out, entry.topic.bytes())?;
     append_u64(out, entry.clock)?;
@@ -135,7 +135,8 @@ fn write_topic(out: &mut Vec<u8>, entry: &RetainedEntry) -> Result<(), NoMemory>
 
 /// Writes entries of topics one after the other.
 fn write_each_topic(out: &mut Vec<u8>, topics: &[RetainedEntry]) -> Result<(), NoMemory>
-    ensures { Writes (flat_map retained_octets topics.now) out.old.items out.new.items result }
+    ensures { Writes (flat_map retained_entry_octets topics.now) out.old.items out.new.items
+        result }
 {
     for entry in topics {
         write_topic(out, entry)?;

@@ -10,7 +10,7 @@ use Rattle.rep_shared.specs.Rows.{has_any}
 use Rattle.rep_entry.specs.declared.entry.Entry.{Entry}
 use Rattle.rep_log.specs.Origins.{ranges_in}
 use Rattle.rep_log.specs.Kept.{of_log, of_mail, of_acks}
-use Rattle.rep_entry.specs.Entries.{row_of}
+use Rattle.rep_entry.specs.Entries.{entry_row}
 use Rattle.rep_log.proofs.Ranges.{acks_both}
 
 any_both : (a b : List Op) → has_any (a ++ b) ≡ (has_any a || has_any b)
@@ -36,7 +36,7 @@ any_acks : (c : List ℕ) (os : List (ℕ × List (ℕ × ℕ))) → has_any (of
 any_acks c [] = refl
 any_acks c (o ∷ os) = ap has_any (acks_both c (map (λ r. (o.0, r)) o.1) (ranges_in os)) ∙ any_both (of_acks c (map (λ r. (o.0, r)) o.1)) (of_acks c (ranges_in os)) ∙ (λ i. any_origin c o.0 o.1 i || any_acks c os i)
 
-pub any_row : (c : List ℕ) (e : Entry) → has_any (row_of c e) ≡ (not (length e.known == 0) || (not (length e.seen.pending == 0) || list_any (λ (o : ℕ × List (ℕ × ℕ)). not (length o.1 == 0)) e.acks))
+pub any_row : (c : List ℕ) (e : Entry) → has_any (entry_row c e) ≡ (not (length e.known == 0) || (not (length e.seen.pending == 0) || list_any (λ (o : ℕ × List (ℕ × ℕ)). not (length o.1 == 0)) e.acks))
 any_row c e =
     any_both (of_log c e.known) (of_mail c e.seen.pending ++ of_acks c (ranges_in e.acks))
     ∙ (λ i. any_log c e.known i || (any_both (of_mail c e.seen.pending) (of_acks c (ranges_in e.acks)) ∙ (λ j. any_mail c e.seen.pending j || any_acks c e.acks j)) i)

@@ -13,12 +13,12 @@ use Rattle.rep_log.specs.declared.log.Log.{Log}
 use Rattle.rep_entry.specs.declared.entry.Entry.{Entry}
 use Rattle.rep_entry.specs.declared.change.Change.{Change}
 use Rattle.rep_log.specs.Logs.{IsFolded, known_on}
-use Rattle.rep_log.specs.Mail.{NoneCovered, is_left, front_before, rest_from, weave}
+use Rattle.rep_log.specs.Mail.{NoneCovered, is_uncovered, front_before, rest_from, weave}
 use Rattle.rep_log.specs.Origins.{ranges_in, AreOrigins, origins_after, ranges_on}
 use Rattle.rep_log.specs.Kept.{kept_ops}
-use Rattle.rep_entry.specs.Entries.{AreChanges, IsEntry, row_of, whole_after, base_of, left_on}
+use Rattle.rep_entry.specs.Entries.{AreChanges, IsEntry, entry_row, whole_after, base_of, left_on}
 use Rattle.rep_entry.specs.Staging.{IsChange, IsLogFit, AreAcksFit, IsFit, planned_row}
-use Rattle.rep_entry.specs.Applied.{applied}
+use Rattle.rep_entry.specs.Applied.{entry_applied}
 use Rattle.rep_entry.proofs.Rising.{front_rest, rising_weave, weave_all}
 use Rattle.rep_entry.proofs.Changes.{none_covered}
 use Rattle.rep_entry.proofs.Freshness.{ranges_same, rising_filter, are_apart, weave_none}
@@ -63,7 +63,7 @@ empty_woven ps (n ∷ ns) e = absurd (no_zero (length ns) (eqb-true (suc (length
 -- ---- the entry that a change makes
 
 -- its row is what is kept with the change
-pub row_applied : (c : List ℕ) (e : Entry) (ch : Change) → row_of c (applied e ch) ≡ planned_row c (base_of e) ch
+pub row_applied : (c : List ℕ) (e : Entry) (ch : Change) → entry_row c (entry_applied e ch) ≡ planned_row c (base_of e) ch
 row_applied c e ch = ap (kept_ops c (known_on e.known ch.log) (left_on (base_of e) ch.news.items ch.acks)) (ranges_same e.acks ch.acks)
 
 pub folded_after : (c : List ℕ) (e : Entry) (log : Option Log) (room : ℕ) → IsEntry c e → IsLogFit e.known log room → IsFolded (whole_after e log)
@@ -82,7 +82,7 @@ pub origins_fit : (c : List ℕ) (e : Entry) (acks : Option (List (ℕ × List (
 origins_fit c e None h fit = h.origins
 origins_fit c e (Some acks) h fit = fit
 
-pub entry_of : (c : List ℕ) (e : Entry) (ch : Change) → IsEntry c e → IsChange ch → IsFit c (base_of e) ch → IsEntry c (applied e ch)
+pub entry_of : (c : List ℕ) (e : Entry) (ch : Change) → IsEntry c e → IsChange ch → IsFit c (base_of e) ch → IsEntry c (entry_applied e ch)
 entry_of c e ch h change fit =
     let ps = e.seen.pending in
     let ns = ch.news.items in
@@ -91,9 +91,9 @@ entry_of c e ch h change fit =
       folded = folded_after c e ch.log (vec_capacity ch.log_room) h fit.log;
       ordered = ordered_after c e ch.log (vec_capacity ch.log_room) h fit.log;
       changes = changes_after c e ch.log (vec_capacity ch.log_room) h fit.log;
-      rising = rising_filter (is_left rs) (weave ps ns) (rising_weave ps ns h.rising change.rising (are_apart ps ns fit.apart));
+      rising = rising_filter (is_uncovered rs) (weave ps ns) (rising_weave ps ns h.rising change.rising (are_apart ps ns fit.apart));
       none_covered = subst (λ rs. NoneCovered rs (left_on (base_of e) ns ch.acks)) (sym (ranges_same e.acks ch.acks)) (none_covered rs (weave ps ns));
-      made = all_filter (λ (p : Put). IsTrue (is_put p)) (is_left rs) (weave ps ns) (weave_all (λ (p : Put). IsTrue (is_put p)) ps ns h.made change.made);
+      made = all_filter (λ (p : Put). IsTrue (is_put p)) (is_uncovered rs) (weave ps ns) (weave_all (λ (p : Put). IsTrue (is_put p)) ps ns h.made change.made);
       origins = origins_fit c e ch.acks h fit.acks;
       parked = fit.parked ∙ sym (ap (λ S. length (parked c S)) (row_applied c e ch));
       exceptions = fit.exceptions ∙ sym (ap (λ S. capped (exceptions c S)) (row_applied c e ch));

@@ -17,7 +17,7 @@ use Rattle.rep_model.proofs.Readers.{put_exact, operation_exact, same_client-tru
 use Rattle.rep_model.proofs.Joins.{same_trans, same_sym}
 use Rattle.rep_model.proofs.Thin.{thin-same, same_kept}
 use Rattle.rep_log.specs.Logs.{visible_in}
-use Rattle.rep_log.specs.Mail.{Range, covers, is_left, weave, named_puts, put_named, InOne, NoneCovered}
+use Rattle.rep_log.specs.Mail.{Range, covers, is_uncovered, weave, named_puts, put_by_name, InOne, NoneCovered}
 use Rattle.rep_log.specs.Kept.{kept_ops}
 use Rattle.rep_log.proofs.Logging.{NoneBelow}
 use Rattle.rep_entry.proofs.Rising.{find_weave}
@@ -34,24 +34,24 @@ or_none false = refl
 
 -- ---- what is left is found
 
-named_filter : (rs : List Range) (ps : List Put) → named_puts (filter (is_left rs) ps) ≡ filter (λ (e : (ℕ × ℕ) × Put). not (list_any (covers e.0) rs)) (named_puts ps)
+named_filter : (rs : List Range) (ps : List Put) → named_puts (filter (is_uncovered rs) ps) ≡ filter (λ (e : (ℕ × ℕ) × Put). not (list_any (covers e.0) rs)) (named_puts ps)
 named_filter rs [] = refl
 named_filter rs (p ∷ ps) =
     let rest = named_filter rs ps in
-    elim (list_any (covers (name_of p)) rs) as (λ b. named_puts (cond (not b) (p ∷ filter (is_left rs) ps) (filter (is_left rs) ps)) ≡ cond (not b) ((name_of p, p) ∷ filter (λ (e : (ℕ × ℕ) × Put). not (list_any (covers e.0) rs)) (named_puts ps)) (filter (λ (e : (ℕ × ℕ) × Put). not (list_any (covers e.0) rs)) (named_puts ps))) [
+    elim (list_any (covers (name_of p)) rs) as (λ b. named_puts (cond (not b) (p ∷ filter (is_uncovered rs) ps) (filter (is_uncovered rs) ps)) ≡ cond (not b) ((name_of p, p) ∷ filter (λ (e : (ℕ × ℕ) × Put). not (list_any (covers e.0) rs)) (named_puts ps)) (filter (λ (e : (ℕ × ℕ) × Put). not (list_any (covers e.0) rs)) (named_puts ps))) [
       | true ↦ rest
       | false ↦ ap (λ es. (name_of p, p) ∷ es) rest
     ]
 
-pub found_left : (q : ℕ × ℕ) (rs : List Range) (ps : List Put) → put_named q (filter (is_left rs) ps) ≡ cond (not (list_any (covers q) rs)) (put_named q ps) None
+pub found_left : (q : ℕ × ℕ) (rs : List Range) (ps : List Put) → put_by_name q (filter (is_uncovered rs) ps) ≡ cond (not (list_any (covers q) rs)) (put_by_name q ps) None
 found_left q rs ps = ap (find put_cmp q) (named_filter rs ps)
     ∙ find-where_key put_cmp (λ (n : ℕ × ℕ). not (list_any (covers n) rs)) q (λ n t. ap (λ (n : ℕ × ℕ). not (list_any (covers n) rs)) (sym (put_exact q n t))) (named_puts ps)
 
-pub none_covered : (rs : List Range) (ps : List Put) → NoneCovered rs (filter (is_left rs) ps)
+pub none_covered : (rs : List Range) (ps : List Put) → NoneCovered rs (filter (is_uncovered rs) ps)
 none_covered rs [] = tt
 none_covered rs (p ∷ ps) =
     let rest = none_covered rs ps in
-    elim (list_any (covers (name_of p)) rs) as (λ b. list_any (covers (name_of p)) rs ≡ b → NoneCovered rs (cond (not b) (p ∷ filter (is_left rs) ps) (filter (is_left rs) ps))) [
+    elim (list_any (covers (name_of p)) rs) as (λ b. list_any (covers (name_of p)) rs ≡ b → NoneCovered rs (cond (not b) (p ∷ filter (is_uncovered rs) ps) (filter (is_uncovered rs) ps))) [
       | true ↦ λ _. rest
       | false ↦ λ free. (free, rest)
     ] refl
@@ -73,34 +73,34 @@ one_put : (c : List ℕ) (p : Put) (q : ℕ × ℕ) → put_at c (OfPut c p ∷ 
 one_put c p q = ap (λ b. find put_cmp q (cons_option (if b then Some (name_of p, p) else None) [])) (itself c)
 
 module _ (c : List ℕ) (es : List ((Stamp × ℕ) × SessionOp)) (stamp : Option Stamp) (visible : stamp ≡ visible_in es) (none_below : NoneBelow stamp es) (p : Put) where
-  put_step : (rs : List Range) (ps more : List Put) → ((q : ℕ × ℕ) → put_named q more ≡ cond (not (list_any (covers q) rs)) (or_else (put_named q ps) (cond (eq_by_cmp put_cmp q (name_of p)) (Some p) None)) None)
+  put_step : (rs : List Range) (ps more : List Put) → ((q : ℕ × ℕ) → put_by_name q more ≡ cond (not (list_any (covers q) rs)) (or_else (put_by_name q ps) (cond (eq_by_cmp put_cmp q (name_of p)) (Some p) None)) None)
       → Same (kept_ops c es more rs) (keep (kept_ops c es ps rs ++ OfPut c p ∷ []))
   put_step rs ps more h = mail_step c es stamp visible none_below ps more rs rs (OfPut c p ∷ []) (refl, tt) refl
       (λ d other. (refl, ap (λ b. cons_option (if b then Some (name_of p, p) else None) []) other, λ q. refl))
       (λ q. sym (or_none (list_any (covers q) rs)))
-      (λ q. h q ∙ ap (λ o. cond (not (list_any (covers q) rs)) (or_else (put_named q ps) o) None) (sym (one_put c p q)))
+      (λ q. h q ∙ ap (λ o. cond (not (list_any (covers q) rs)) (or_else (put_by_name q ps) o) None) (sym (one_put c p q)))
 
   -- a message that is new
   pub put_more : (rs : List Range) (ps ns news : List Put) → ((q : ℕ × ℕ) → InOne q ps ns) → ((q : ℕ × ℕ) → InOne q ps news)
-      → ((q : ℕ × ℕ) → put_named q news ≡ cond (eq_by_cmp put_cmp q (name_of p)) (Some p) (put_named q ns))
-      → put_named (name_of p) ps ≡ None → put_named (name_of p) ns ≡ None
-      → Same (kept_ops c es (filter (is_left rs) (weave ps news)) rs) (keep (kept_ops c es (filter (is_left rs) (weave ps ns)) rs ++ OfPut c p ∷ []))
-  put_more rs ps ns news apart still is absent fresh = put_step rs (filter (is_left rs) (weave ps ns)) (filter (is_left rs) (weave ps news)) (λ q.
+      → ((q : ℕ × ℕ) → put_by_name q news ≡ cond (eq_by_cmp put_cmp q (name_of p)) (Some p) (put_by_name q ns))
+      → put_by_name (name_of p) ps ≡ None → put_by_name (name_of p) ns ≡ None
+      → Same (kept_ops c es (filter (is_uncovered rs) (weave ps news)) rs) (keep (kept_ops c es (filter (is_uncovered rs) (weave ps ns)) rs ++ OfPut c p ∷ []))
+  put_more rs ps ns news apart still is absent fresh = put_step rs (filter (is_uncovered rs) (weave ps ns)) (filter (is_uncovered rs) (weave ps news)) (λ q.
       let cov = list_any (covers q) rs in
       let same = eq_by_cmp put_cmp q (name_of p) in
       found_left q rs (weave ps news)
-      ∙ ap (λ o. cond (not cov) o None) (find_weave q ps news (still q) ∙ ap (or_else (put_named q ps)) (is q))
-      ∙ more_found cov same (put_named q ps) (put_named q ns) p (λ t. let e = tells_apart put_exact q (name_of p) t in (ap (λ n. put_named n ps) e ∙ absent, ap (λ n. put_named n ns) e ∙ fresh))
+      ∙ ap (λ o. cond (not cov) o None) (find_weave q ps news (still q) ∙ ap (or_else (put_by_name q ps)) (is q))
+      ∙ more_found cov same (put_by_name q ps) (put_by_name q ns) p (λ t. let e = tells_apart put_exact q (name_of p) t in (ap (λ n. put_by_name n ps) e ∙ absent, ap (λ n. put_by_name n ns) e ∙ fresh))
       ∙ ap (λ o. cond (not cov) (or_else o (cond same (Some p) None)) None) (sym (found_left q rs (weave ps ns) ∙ ap (λ o. cond (not cov) o None) (find_weave q ps ns (apart q)))))
 
   -- a message that is acknowledged, or there
-  pub put_skipped : (rs : List Range) (ps : List Put) → (list_any (covers (name_of p)) rs ≡ false → is_some (put_named (name_of p) ps) ≡ true)
-      → Same (kept_ops c es (filter (is_left rs) ps) rs) (keep (kept_ops c es (filter (is_left rs) ps) rs ++ OfPut c p ∷ []))
-  put_skipped rs ps there = put_step rs (filter (is_left rs) ps) (filter (is_left rs) ps) (λ q.
+  pub put_skipped : (rs : List Range) (ps : List Put) → (list_any (covers (name_of p)) rs ≡ false → is_some (put_by_name (name_of p) ps) ≡ true)
+      → Same (kept_ops c es (filter (is_uncovered rs) ps) rs) (keep (kept_ops c es (filter (is_uncovered rs) ps) rs ++ OfPut c p ∷ []))
+  put_skipped rs ps there = put_step rs (filter (is_uncovered rs) ps) (filter (is_uncovered rs) ps) (λ q.
       let cov = list_any (covers q) rs in
       let same = eq_by_cmp put_cmp q (name_of p) in
       found_left q rs ps
-      ∙ skipped cov same (put_named q ps) p (λ t free. let e = tells_apart put_exact q (name_of p) t in ap (λ n. is_some (put_named n ps)) e ∙ there (ap (λ n. list_any (covers n) rs) (sym e) ∙ free))
+      ∙ skipped cov same (put_by_name q ps) p (λ t free. let e = tells_apart put_exact q (name_of p) t in ap (λ n. is_some (put_by_name n ps)) e ∙ there (ap (λ n. list_any (covers n) rs) (sym e) ∙ free))
       ∙ ap (λ o. cond (not cov) (or_else o (cond same (Some p) None)) None) (sym (found_left q rs ps)))
 
 -- ---- acknowledgements more
@@ -112,14 +112,14 @@ still_left false false w = sym (none_or w)
 
 module _ (c : List ℕ) (es : List ((Stamp × ℕ) × SessionOp)) (stamp : Option Stamp) (visible : stamp ≡ visible_in es) (none_below : NoneBelow stamp es) where
   pub ack_more : (rs ranges : List Range) (ps : List Put) (r : Range) → ((q : ℕ × ℕ) → list_any (covers q) ranges ≡ (list_any (covers q) rs || covers q r))
-      → Same (kept_ops c es (filter (is_left ranges) ps) ranges) (keep (kept_ops c es (filter (is_left rs) ps) rs ++ Ack c r.0 r.1.0 r.1.1 ∷ []))
+      → Same (kept_ops c es (filter (is_uncovered ranges) ps) ranges) (keep (kept_ops c es (filter (is_uncovered rs) ps) rs ++ Ack c r.0 r.1.0 r.1.1 ∷ []))
   ack_more rs ranges ps r h =
-      mail_step c es stamp visible none_below (filter (is_left rs) ps) (filter (is_left ranges) ps) rs ranges (Ack c r.0 r.1.0 r.1.1 ∷ []) (refl, tt) refl
+      mail_step c es stamp visible none_below (filter (is_uncovered rs) ps) (filter (is_uncovered ranges) ps) rs ranges (Ack c r.0 r.1.0 r.1.1 ∷ []) (refl, tt) refl
       (λ d other. (refl, refl, λ q. ap (λ b. (b && (q.1 == r.0) && nat_le r.1.0 q.0 && nat_le q.0 r.1.1) || false) other))
       (λ q. h q ∙ ap (λ b. list_any (covers q) rs || b) (sym (ap (λ b. (b && (q.1 == r.0) && nat_le r.1.0 q.0 && nat_le q.0 r.1.1) || false) (itself c) ∙ or_none (covers q r))))
       (λ q. found_left q ranges ps
-      ∙ ap (λ b. cond (not b) (put_named q ps) None) (h q)
-      ∙ still_left (list_any (covers q) rs) (covers q r) (put_named q ps)
+      ∙ ap (λ b. cond (not b) (put_by_name q ps) None) (h q)
+      ∙ still_left (list_any (covers q) rs) (covers q r) (put_by_name q ps)
       ∙ (λ i. cond (not (sym (h q) i)) (or_else (sym (found_left q rs ps) i) None) None))
 
   -- what is kept keeps itself
@@ -127,7 +127,7 @@ module _ (c : List ℕ) (es : List ((Stamp × ℕ) × SessionOp)) (stamp : Optio
   keeps_itself rs ps none =
       subst (λ S. Same (kept_ops c es ps rs) (keep S)) (append-nil (kept_ops c es ps rs))
       (mail_step c es stamp visible none_below ps ps rs rs [] tt refl (λ d other. (refl, refl, λ q. refl)) (λ q. sym (or_none (list_any (covers q) rs)))
-      (λ q. kept_itself rs ps none q ∙ ap (λ o. cond (not (list_any (covers q) rs)) o None) (sym (none_or (put_named q ps)))))
+      (λ q. kept_itself rs ps none q ∙ ap (λ o. cond (not (list_any (covers q) rs)) o None) (sym (none_or (put_by_name q ps)))))
 
   -- ---- a session operation that is there
 

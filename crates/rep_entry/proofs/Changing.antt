@@ -7,7 +7,7 @@ use Rattle.rep_model.specs.Limits.{parked, exceptions}
 use Rattle.rep_shared.specs.Steps.{capped}
 use Rattle.rep_log.specs.declared.log.Log.{Log}
 use Rattle.rep_entry.specs.declared.entry.Entry.{Entry}
-use Rattle.rep_log.specs.Logs.{IsFolded, all_of, known_on}
+use Rattle.rep_log.specs.Logs.{IsFolded, all_in_log, known_on}
 use Rattle.rep_log.specs.Origins.{ranges_in, AreOrigins, origins_after, ranges_on}
 use Rattle.rep_entry.specs.Entries.{AreChanges, IsEntry, whole_after, base_of, left_on, row_on}
 use Rattle.rep_entry.specs.Staging.{IsLogFit, AreAcksFit}
@@ -30,7 +30,7 @@ module _ (c : List ℕ) (e : Entry) (h : IsEntry c e) where
       ∙ sym (parked_row c e.known e.seen.pending (ranges_in e.acks) e.seen.stamp e.seen.prefix e.seen.session h.folded h.ordered)
       ∙ parked_row c e.known (left_on (base_of e) news acks) (ranges_on (ranges_in e.acks) acks) e.seen.stamp e.seen.prefix e.seen.session h.folded h.ordered
   parked_fit (Some log) news acks folded ordered =
-      parked_row c (all_of e.known log) (left_on (base_of e) news acks) (ranges_on (ranges_in e.acks) acks) log.stamp log.prefix log.session folded ordered
+      parked_row c (all_in_log e.known log) (left_on (base_of e) news acks) (ranges_on (ranges_in e.acks) acks) log.stamp log.prefix log.session folded ordered
 
   pub exceptions_fit : (log : Option Log) (news : List Put) (acks : Option (List (ℕ × List (ℕ × ℕ)))) → AreOrigins (origins_after e.acks acks) → exceptions_on e acks ≡ capped (exceptions c (row_on c (base_of e) log news acks))
   exceptions_fit log news None origins =

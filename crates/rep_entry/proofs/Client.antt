@@ -14,7 +14,7 @@ use Rattle.rep_op.specs.declared.op.Put.{Put}
 use Rattle.rep_op.specs.Orders.{stamp_cmp, operation_cmp, name_of, put_cmp, AreOfClients}
 use Rattle.rep_op.specs.Sets.{same_client, operation_of, operations, put_of, puts, acknowledges, is_acknowledged}
 use Rattle.rep_model.specs.declared.view.ClientView.{ClientView}
-use Rattle.rep_model.specs.Views.{greatest, take_stamp, names, visible, history_at, history, session_of, in_order, pending, view}
+use Rattle.rep_model.specs.Views.{greatest, take_stamp, names, visible, history_at, history, session_made, in_order, pending, view}
 use Rattle.rep_model.proofs.Readers.{client_total}
 use Rattle.rep_shared.proofs.Kept.{both_of_clients}
 use Rattle.rep_log.specs.Mail.{Range, covers, named_puts, Rising, NoneCovered}
@@ -94,12 +94,12 @@ module _ (c : List ℕ) where
         unfiltered (q ∷ qs) h = λ i. cond (not (h.0 i)) ((name_of q, q) ∷ unfiltered qs h.1 i) (unfiltered qs h.1 i)
 
     -- the view that is kept beside it
-    pub kept_view : (stamp : Option Stamp) (prefix : ℕ) (session : Option Session) → stamp ≡ greatest stamp_cmp (filter_map take_stamp (names es)) → prefix ≡ length (history_at (λ name. find operation_cmp name es) stamp) → session ≡ session_of (history_at (λ name. find operation_cmp name es) stamp) → Rising ps → NoneCovered rs ps
+    pub kept_view : (stamp : Option Stamp) (prefix : ℕ) (session : Option Session) → stamp ≡ greatest stamp_cmp (filter_map take_stamp (names es)) → prefix ≡ length (history_at (λ name. find operation_cmp name es) stamp) → session ≡ session_made (history_at (λ name. find operation_cmp name es) stamp) → Rising ps → NoneCovered rs ps
         → seen_as stamp prefix session ps ≡ view c (kept_ops c es ps rs)
     kept_view stamp prefix session seen count made rising none =
         let v : stamp ≡ visible c (kept_ops c es ps rs) = seen ∙ ap (λ (es : List ((Stamp × ℕ) × SessionOp)). greatest stamp_cmp (filter_map take_stamp (names es))) (sym kept_operations) in
         let h : history_at (λ name. find operation_cmp name es) stamp ≡ history c (kept_ops c es ps rs) = λ i. history_at (λ name. find operation_cmp name (sym kept_operations i)) (v i) in
-        λ i. record { stamp = v i; prefix = (count ∙ ap length h) i; session = (made ∙ ap session_of h) i; pending = sym (kept_pending rising none) i }
+        λ i. record { stamp = v i; prefix = (count ∙ ap length h) i; session = (made ∙ ap session_made h) i; pending = sym (kept_pending rising none) i }
 
 -- ---- what is kept of a client is of clients
 

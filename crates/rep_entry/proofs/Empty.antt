@@ -11,14 +11,14 @@ use Rattle.rep_entry.specs.declared.entry.Entry.{Entry}
 use Rattle.rep_log.specs.Mail.{Rising, NoneCovered}
 use Rattle.rep_log.specs.Origins.{ranges_in, AreOrigins}
 use Rattle.rep_log.specs.Kept.{kept_ops}
-use Rattle.rep_entry.specs.Entries.{AreChanges, AreMade, row_of, IsEntry}
+use Rattle.rep_entry.specs.Entries.{AreChanges, AreMade, entry_row, IsEntry}
 use Rattle.rep_entry.specs.Applied.{nothing_held}
 use Rattle.rep_entry.proofs.Counts.{folded_as}
 
 pub empty_entry : (c : List ℕ) (e : Entry) → e.seen.stamp ≡ None → e.seen.prefix ≡ 0 → e.seen.session ≡ None → e.seen.pending ≡ [] → e.known ≡ [] → e.acks ≡ [] → e.parked ≡ 0 → e.exceptions ≡ 0 → IsEntry c e
 unfolding exceptions
 empty_entry c e stamp prefix session pending known acks none no_exception =
-    let row : row_of c e ≡ [] = λ i. kept_ops c (known i) (pending i) (ranges_in (acks i)) in
+    let row : entry_row c e ≡ [] = λ i. kept_ops c (known i) (pending i) (ranges_in (acks i)) in
     record {
       folded = folded_as e.seen.stamp None e.seen.prefix 0 e.seen.session None e.known [] stamp prefix session known (record { visible = refl; prefix = refl; session = refl; none_below = tt });
       ordered = subst (λ (es : List ((Stamp × ℕ) × SessionOp)). T (is_sorted operation_cmp es)) (sym known) tt;

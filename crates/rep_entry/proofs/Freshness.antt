@@ -14,7 +14,7 @@ use Rattle.rep_model.proofs.Lookup.{or_else}
 use Rattle.rep_model.proofs.Readers.{put_total, put_exact}
 use Rattle.rep_shared.proofs.Flat.{all_put}
 use Rattle.rep_entry.specs.declared.span.Span.{Span}
-use Rattle.rep_log.specs.Mail.{Range, covers, Above, Rising, NoneCovered, named_puts, put_named, InOne, weave}
+use Rattle.rep_log.specs.Mail.{Range, covers, Above, Rising, NoneCovered, named_puts, put_by_name, InOne, weave}
 use Rattle.rep_entry.specs.Spans.{IsFreeOutside}
 use Rattle.rep_log.specs.Origins.{ranges_in, origins_after, ranges_on}
 use Rattle.rep_entry.specs.Entries.{AreUnderNames, AreMade, NoneCoveredBelow, messages}
@@ -46,7 +46,7 @@ named_messages : (es : List ((ℕ × ℕ) × Put)) → AreUnderNames es → name
 named_messages [] h = refl
 named_messages (e ∷ es) h = λ i. (sym h.0 i, e.1) ∷ named_messages es h.1 i
 
-pub found_message : (q : ℕ × ℕ) (es : List ((ℕ × ℕ) × Put)) → AreUnderNames es → put_named q (messages es) ≡ find put_cmp q es
+pub found_message : (q : ℕ × ℕ) (es : List ((ℕ × ℕ) × Put)) → AreUnderNames es → put_by_name q (messages es) ≡ find put_cmp q es
 found_message q es h = ap (find put_cmp q) (named_messages es h)
 
 pub made_messages : (es : List ((ℕ × ℕ) × Put)) → AllByRecursion (λ (e : (ℕ × ℕ) × Put). IsTrue (is_put e.1)) es → AreMade (messages es)
@@ -69,23 +69,23 @@ rising_messages (e ∷ es) h s = (
 
 -- ---- apart from those that wait
 
-found_among : (p : Put) (ps xs : List Put) → AllByRecursion (λ x. is_some (put_named (name_of x) ps) ≡ true) xs → AllByRecursion (λ x. is_some (put_named (name_of x) (p ∷ ps)) ≡ true) xs
+found_among : (p : Put) (ps xs : List Put) → AllByRecursion (λ x. is_some (put_by_name (name_of x) ps) ≡ true) xs → AllByRecursion (λ x. is_some (put_by_name (name_of x) (p ∷ ps)) ≡ true) xs
 found_among p ps [] h = tt
 found_among p ps (x ∷ xs) h = (
-  elim (eq_by_cmp put_cmp (name_of x) (name_of p)) as (λ b. is_some (cond b (Some p) (put_named (name_of x) ps)) ≡ true) [ true ↦ refl | false ↦ h.0 ],
+  elim (eq_by_cmp put_cmp (name_of x) (name_of p)) as (λ b. is_some (cond b (Some p) (put_by_name (name_of x) ps)) ≡ true) [ true ↦ refl | false ↦ h.0 ],
   found_among p ps xs h.1,
 )
 
-found_themselves : (ps : List Put) → AllByRecursion (λ p. is_some (put_named (name_of p) ps) ≡ true) ps
+found_themselves : (ps : List Put) → AllByRecursion (λ p. is_some (put_by_name (name_of p) ps) ≡ true) ps
 found_themselves [] = tt
 found_themselves (p ∷ ps) = (
-  ap (λ r. is_some (cond (is_eq r) (Some p) (put_named (name_of p) ps))) (tied_itself put_total (name_of p)),
+  ap (λ r. is_some (cond (is_eq r) (Some p) (put_by_name (name_of p) ps))) (tied_itself put_total (name_of p)),
   found_among p ps ps (found_themselves ps),
 )
 
-none_apart : (p : Put) (ns : List Put) → put_named (name_of p) ns ≡ None → IsApart p ns
+none_apart : (p : Put) (ns : List Put) → put_by_name (name_of p) ns ≡ None → IsApart p ns
 none_apart p [] h = tt
-none_apart p (n ∷ ns) h = elim (eq_by_cmp put_cmp (name_of p) (name_of n)) as (λ b. eq_by_cmp put_cmp (name_of p) (name_of n) ≡ b → cond b (Some n) (put_named (name_of p) ns) ≡ None → IsApart p (n ∷ ns)) [
+none_apart p (n ∷ ns) h = elim (eq_by_cmp put_cmp (name_of p) (name_of n)) as (λ b. eq_by_cmp put_cmp (name_of p) (name_of n) ≡ b → cond b (Some n) (put_by_name (name_of p) ns) ≡ None → IsApart p (n ∷ ns)) [
   | true ↦ λ _ e. some_none n e
   | false ↦ λ t e. (t, none_apart p ns e)
 ] refl h
@@ -93,7 +93,7 @@ none_apart p (n ∷ ns) h = elim (eq_by_cmp put_cmp (name_of p) (name_of n)) as 
 pub are_apart : (ps ns : List Put) → ((q : ℕ × ℕ) → InOne q ps ns) → AreApart ps ns
 are_apart ps ns h = go ps (found_themselves ps)
   where
-    go : (xs : List Put) → AllByRecursion (λ x. is_some (put_named (name_of x) ps) ≡ true) xs → AreApart xs ns
+    go : (xs : List Put) → AllByRecursion (λ x. is_some (put_by_name (name_of x) ps) ≡ true) xs → AreApart xs ns
     go [] k = tt
     go (x ∷ xs) k = (none_apart x ns (h (name_of x) k.0), go xs k.1)
 
@@ -138,7 +138,7 @@ not_there true x y e = absurd (true≢false e)
 not_there false (Some p) y e = absurd (true≢false e)
 not_there false None y e = (refl, no_some y e)
 
-module _ (ps : List Put) (es new : List ((ℕ × ℕ) × Put)) (p : Put) (under : AreUnderNames es) (apart : (q : ℕ × ℕ) → InOne q ps (messages es)) (absent : put_named (name_of p) ps ≡ None) (is : new ≡ put put_cmp (name_of p) p es) where
+module _ (ps : List Put) (es new : List ((ℕ × ℕ) × Put)) (p : Put) (under : AreUnderNames es) (apart : (q : ℕ × ℕ) → InOne q ps (messages es)) (absent : put_by_name (name_of p) ps ≡ None) (is : new ≡ put put_cmp (name_of p) p es) where
   pub under_more : AreUnderNames new
   under_more = subst AreUnderNames (sym is) (all_put put_cmp put_exact (λ k v. k ≡ name_of v) (name_of p) p es refl under)
 
@@ -154,12 +154,12 @@ module _ (ps : List Put) (es new : List ((ℕ × ℕ) × Put)) (p : Put) (under 
   pub free_more : (span : Span) (rs : List Range) → list_any (covers (name_of p)) rs ≡ false → AllByRecursion (λ (e : (ℕ × ℕ) × Put). IsFreeOutside span rs e.1) es → AllByRecursion (λ (e : (ℕ × ℕ) × Put). IsFreeOutside span rs e.1) new
   free_more span rs own h = subst (AllByRecursion (λ (e : (ℕ × ℕ) × Put). IsFreeOutside span rs e.1)) (sym is) (all_put put_cmp put_exact (λ k v. IsFreeOutside span rs v) (name_of p) p es (λ _. own) h)
 
-  pub found_more : (q : ℕ × ℕ) → put_named q (messages new) ≡ cond (eq_by_cmp put_cmp q (name_of p)) (Some p) (put_named q (messages es))
+  pub found_more : (q : ℕ × ℕ) → put_by_name q (messages new) ≡ cond (eq_by_cmp put_cmp q (name_of p)) (Some p) (put_by_name q (messages es))
   found_more q = found_message q new under_more ∙ ap (find put_cmp q) is ∙ find-put put_cmp put_total q (name_of p) p es ∙ ap (cond (eq_by_cmp put_cmp q (name_of p)) (Some p)) (sym (found_message q es under))
 
   pub apart_more : (q : ℕ × ℕ) → InOne q ps (messages new)
-  apart_more q there = found_more q ∙ elim (eq_by_cmp put_cmp q (name_of p)) as (λ b. eq_by_cmp put_cmp q (name_of p) ≡ b → cond b (Some p) (put_named q (messages es)) ≡ None) [
-    | true ↦ λ t. absurd (true≢false (sym there ∙ ap (λ n. is_some (put_named n ps)) (tells_apart put_exact q (name_of p) t) ∙ ap is_some absent))
+  apart_more q there = found_more q ∙ elim (eq_by_cmp put_cmp q (name_of p)) as (λ b. eq_by_cmp put_cmp q (name_of p) ≡ b → cond b (Some p) (put_by_name q (messages es)) ≡ None) [
+    | true ↦ λ t. absurd (true≢false (sym there ∙ ap (λ n. is_some (put_by_name n ps)) (tells_apart put_exact q (name_of p) t) ∙ ap is_some absent))
     | false ↦ λ _. apart q there
   ] refl
 
@@ -175,6 +175,6 @@ in_order_sorted R (e ∷ es) h =
     front [] b = refl
     front (f ∷ es) b = ap (λ r. by_order r ((e.0, e.1) ∷ f ∷ es) ((f.0, e.1) ∷ es) (f ∷ put R e.0 e.1 es)) (less (R e.0 f.0) (first (is_lt (R e.0 f.0)) (below_all R e.0 es) b))
 
-pub among_named : (q : ℕ × ℕ) (ps : List Put) → list_any (λ (p : Put). is_eq (put_cmp q (name_of p))) ps ≡ is_some (put_named q ps)
+pub among_named : (q : ℕ × ℕ) (ps : List Put) → list_any (λ (p : Put). is_eq (put_cmp q (name_of p))) ps ≡ is_some (put_by_name q ps)
 among_named q [] = refl
-among_named q (p ∷ ps) = elim (is_eq (put_cmp q (name_of p))) as (λ b. (b || list_any (λ (p : Put). is_eq (put_cmp q (name_of p))) ps) ≡ is_some (cond b (Some p) (put_named q ps))) [ true ↦ refl | false ↦ among_named q ps ]
+among_named q (p ∷ ps) = elim (is_eq (put_cmp q (name_of p))) as (λ b. (b || list_any (λ (p : Put). is_eq (put_cmp q (name_of p))) ps) ≡ is_some (cond b (Some p) (put_by_name q ps))) [ true ↦ refl | false ↦ among_named q ps ]

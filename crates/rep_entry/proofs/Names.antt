@@ -4,13 +4,13 @@ use Rattle.std.proofs.lemmas.Bool.Decides.{nat_tests}
 use Rattle.std.proofs.lemmas.Option.{slice_get-get_or}
 use Rattle.std.specs.List.{AllByRecursion}
 use Rattle.std.specs.Ordering.{is_eq, is_lt, ordering_reverse, ordering_then}
-use Rattle.sn_tables.specs.inner.Tables.{AllAbove, IsAt, IsGap}
+use Rattle.sn_tables.specs.inner.Tables.{AllAbove, IsFoundAt, IsGap}
 use Rattle.sn_tables.proofs.Ascending.{Ascends}
 use Rattle.rep_op.specs.declared.op.Put.{Put}
 use Rattle.rep_op.specs.Orders.{name_of, put_cmp}
 use Rattle.rep_model.specs.Fresh.{largest}
 use Rattle.rep_model.proofs.Readers.{put_total}
-use Rattle.rep_log.specs.Mail.{goes_before, front_before, rest_from, weave, IsLess, Rising, put_named}
+use Rattle.rep_log.specs.Mail.{goes_before, front_before, rest_from, weave, IsLess, Rising, put_by_name}
 use Rattle.rep_entry.specs.inner.Mail.{are_behind}
 use Rattle.rep_entry.specs.inner.Numbers.{seq_from}
 
@@ -27,19 +27,19 @@ module _ (q : ℕ × ℕ) where
   turned : (p : Put) (r : Ordering) → put_cmp (name_of p) q ≡ r → put_cmp q (name_of p) ≡ ordering_reverse r
   turned p r e = put_total.antisymm q (name_of p) ∙ ap ordering_reverse e
 
-  none_above : (ps : List Put) → AllAbove (λ p. put_cmp (name_of p) q) ps → put_named q ps ≡ None
+  none_above : (ps : List Put) → AllAbove (λ p. put_cmp (name_of p) q) ps → put_by_name q ps ≡ None
   none_above [] h = refl
-  none_above (p ∷ ps) h = ap (λ r. cond (is_eq r) (Some p) (put_named q ps)) (turned p Greater h.0) ∙ none_above ps h.1
+  none_above (p ∷ ps) h = ap (λ r. cond (is_eq r) (Some p) (put_by_name q ps)) (turned p Greater h.0) ∙ none_above ps h.1
 
-  pub named_gap : (ps : List Put) (i : ℕ) → IsGap (λ p. put_cmp (name_of p) q) ps i → put_named q ps ≡ None
+  pub named_gap : (ps : List Put) (i : ℕ) → IsGap (λ p. put_cmp (name_of p) q) ps i → put_by_name q ps ≡ None
   named_gap ps zero h = none_above ps h
   named_gap [] (suc i) h = absurd h
-  named_gap (p ∷ ps) (suc i) h = ap (λ r. cond (is_eq r) (Some p) (put_named q ps)) (turned p Less h.0) ∙ named_gap ps i h.1
+  named_gap (p ∷ ps) (suc i) h = ap (λ r. cond (is_eq r) (Some p) (put_by_name q ps)) (turned p Less h.0) ∙ named_gap ps i h.1
 
-  pub named_at : (ps : List Put) (i : ℕ) (d : Put) → IsAt (λ p. put_cmp (name_of p) q) ps i → put_named q ps ≡ Some (get_or ps i d)
+  pub named_at : (ps : List Put) (i : ℕ) (d : Put) → IsFoundAt (λ p. put_cmp (name_of p) q) ps i → put_by_name q ps ≡ Some (get_or ps i d)
   named_at [] i d h = absurd h
-  named_at (p ∷ ps) zero d h = ap (λ r. cond (is_eq r) (Some p) (put_named q ps)) (turned p Equal h.0)
-  named_at (p ∷ ps) (suc i) d h = ap (λ r. cond (is_eq r) (Some p) (put_named q ps)) (turned p Less h.0) ∙ named_at ps i d h.1
+  named_at (p ∷ ps) zero d h = ap (λ r. cond (is_eq r) (Some p) (put_by_name q ps)) (turned p Equal h.0)
+  named_at (p ∷ ps) (suc i) d h = ap (λ r. cond (is_eq r) (Some p) (put_by_name q ps)) (turned p Less h.0) ∙ named_at ps i d h.1
 
 -- ---- the last of a gateway
 

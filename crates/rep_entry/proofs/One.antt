@@ -20,7 +20,7 @@ use Rattle.rep_model.proofs.Readers.{same_client-true, operation_exact, put_exac
 use Rattle.rep_model.proofs.Thin.{thin-same, visible-thin}
 use Rattle.rep_log.specs.Logs.{visible_in, IsKeptIn}
 use Rattle.rep_log.proofs.Logging.{NoneBelow, all_kept}
-use Rattle.rep_log.specs.Mail.{Range, covers, put_named}
+use Rattle.rep_log.specs.Mail.{Range, covers, put_by_name}
 use Rattle.rep_log.specs.Kept.{of_log, of_mail, of_acks, kept_ops}
 use Rattle.rep_entry.proofs.Client.{itself, kept_operations, kept_puts, kept_acknowledged, kept_of_clients}
 use Rattle.rep_entry.proofs.Steps.{KeepsOf, kept_of_readers}
@@ -122,15 +122,15 @@ module _ (c d : List ℕ) (other : same_client d c ≡ false) where
 
 -- ---- a session operation of a new name
 
-uncovered : (rs : List Range) (ps : List Put) (q : ℕ × ℕ) → AllByRecursion (λ p. list_any (covers (name_of p)) rs ≡ false) ps → list_any (covers q) rs ≡ true → put_named q ps ≡ None
+uncovered : (rs : List Range) (ps : List Put) (q : ℕ × ℕ) → AllByRecursion (λ p. list_any (covers (name_of p)) rs ≡ false) ps → list_any (covers q) rs ≡ true → put_by_name q ps ≡ None
 uncovered rs [] q h e = refl
-uncovered rs (p ∷ ps) q h e = elim (eq_by_cmp put_cmp q (name_of p)) as (λ b. eq_by_cmp put_cmp q (name_of p) ≡ b → cond b (Some p) (put_named q ps) ≡ None) [
+uncovered rs (p ∷ ps) q h e = elim (eq_by_cmp put_cmp q (name_of p)) as (λ b. eq_by_cmp put_cmp q (name_of p) ≡ b → cond b (Some p) (put_by_name q ps) ≡ None) [
   | true ↦ λ t. absurd (true≢false (sym e ∙ ap (λ n. list_any (covers n) rs) (tells_apart put_exact q (name_of p) t) ∙ h.0))
   | false ↦ λ _. uncovered rs ps q h.1 e
 ] refl
 
-pub kept_itself : (rs : List Range) (ps : List Put) → AllByRecursion (λ p. list_any (covers (name_of p)) rs ≡ false) ps → (q : ℕ × ℕ) → put_named q ps ≡ cond (not (list_any (covers q) rs)) (put_named q ps) None
-kept_itself rs ps h q = elim (list_any (covers q) rs) as (λ b. list_any (covers q) rs ≡ b → put_named q ps ≡ cond (not b) (put_named q ps) None) [
+pub kept_itself : (rs : List Range) (ps : List Put) → AllByRecursion (λ p. list_any (covers (name_of p)) rs ≡ false) ps → (q : ℕ × ℕ) → put_by_name q ps ≡ cond (not (list_any (covers q) rs)) (put_by_name q ps) None
+kept_itself rs ps h q = elim (list_any (covers q) rs) as (λ b. list_any (covers q) rs ≡ b → put_by_name q ps ≡ cond (not b) (put_by_name q ps) None) [
   | true ↦ λ e. uncovered rs ps q h e
   | false ↦ λ _. refl
 ] refl
@@ -172,7 +172,7 @@ module _ (c : List ℕ) (s : Stamp) (k : ℕ) (x : SessionOp) (es more : List ((
         ∙ (λ i. or_else (find operation_cmp name (sym alone i)) (find operation_cmp name (sym (kept_operations c es ps rs) i)))
         ∙ sym (swapped (operation_at c K name) (operation_at c (op ∷ []) name) (not_there c name)));
     puts_kept = λ name. ap (find put_cmp name) (kept_puts c more ps rs) ∙ kept_itself rs ps none name
-        ∙ (λ i. cond (not (sym (or_none (list_any (covers name) rs)) i)) (sym (none_or (put_named name ps)) i) None)
+        ∙ (λ i. cond (not (sym (or_none (list_any (covers name) rs)) i)) (sym (none_or (put_by_name name ps)) i) None)
         ∙ (λ i. cond (not (sym (kept_acknowledged c es ps rs name) i || false)) (or_else (find put_cmp name (sym (kept_puts c es ps rs) i)) None) None);
     acknowledgements_kept = λ name. kept_acknowledged c more ps rs name ∙ sym (kept_acknowledged c es ps rs name) ∙ sym (or_none (is_acknowledged c K name));
   }
@@ -206,7 +206,7 @@ module _ (c : List ℕ) (es : List ((Stamp × ℕ) × SessionOp)) (stamp : Optio
     (no_session : operations c N ≡ [])
     (others : (d : List ℕ) → same_client d c ≡ false → (operations d N ≡ []) × (puts d N ≡ []) × ((q : ℕ × ℕ) → is_acknowledged d N q ≡ false))
     (acknowledged : (q : ℕ × ℕ) → list_any (covers q) ranges ≡ (list_any (covers q) rs || is_acknowledged c N q))
-    (waiting : (q : ℕ × ℕ) → put_named q more ≡ cond (not (list_any (covers q) ranges)) (or_else (put_named q ps) (put_at c N q)) None) where
+    (waiting : (q : ℕ × ℕ) → put_by_name q more ≡ cond (not (list_any (covers q) ranges)) (or_else (put_by_name q ps) (put_at c N q)) None) where
   abbrev before : List Op
   before = kept_ops c es ps rs
 

@@ -10,7 +10,7 @@ use Rattle.rep_model.specs.Views.{in_order}
 use Rattle.rep_model.proofs.Lookup.{or_else, find_both}
 use Rattle.rep_model.proofs.Readers.{put_total}
 use Rattle.rep_model.proofs.Joins.{all-both, all-weaker}
-use Rattle.rep_log.specs.Mail.{goes_before, front_before, rest_from, weave, IsLess, Above, Rising, named_puts, put_named, InOne}
+use Rattle.rep_log.specs.Mail.{goes_before, front_before, rest_from, weave, IsLess, Above, Rising, named_puts, put_by_name, InOne}
 
 -- p's name is none of theirs
 abbrev pub IsApart : Put → List Put → Type 0
@@ -91,7 +91,7 @@ named_both : (ps ns : List Put) → named_puts (ps ++ ns) ≡ named_puts ps ++ n
 named_both [] ns = refl
 named_both (p ∷ ps) ns = ap (λ rest. (name_of p, p) ∷ rest) (named_both ps ns)
 
-put_named_both : (q : ℕ × ℕ) (ps ns : List Put) → put_named q (ps ++ ns) ≡ or_else (put_named q ps) (put_named q ns)
+put_named_both : (q : ℕ × ℕ) (ps ns : List Put) → put_by_name q (ps ++ ns) ≡ or_else (put_by_name q ps) (put_by_name q ns)
 put_named_both q ps ns = ap (find put_cmp q) (named_both ps ns) ∙ find_both put_cmp q (named_puts ps) (named_puts ns)
 
 shuffled : (front p ps rest : Option Put) → (is_some (or_else p ps) ≡ true → or_else front rest ≡ None) → or_else front (or_else p (or_else ps rest)) ≡ or_else (or_else p ps) (or_else front rest)
@@ -108,17 +108,17 @@ shuffled (Some f) (Some x) ps rest h = none_first (sym (h refl))
     none_first e = cc
 
 -- what both in one have under a name
-pub find_weave : (q : ℕ × ℕ) (ps ns : List Put) → InOne q ps ns → put_named q (weave ps ns) ≡ or_else (put_named q ps) (put_named q ns)
+pub find_weave : (q : ℕ × ℕ) (ps ns : List Put) → InOne q ps ns → put_by_name q (weave ps ns) ≡ or_else (put_by_name q ps) (put_by_name q ns)
 find_weave q [] ns h = refl
 find_weave q (p ∷ ps) ns h =
     let front = front_before p ns in
     let rest = rest_from p ns in
-    let halves : put_named q ns ≡ or_else (put_named q front) (put_named q rest) = ap (put_named q) (sym (front_rest p ns)) ∙ put_named_both q front rest in
-    let one : Option Put = put_named q (p ∷ []) in
-    let split : put_named q (p ∷ ps) ≡ or_else one (put_named q ps) = put_named_both q (p ∷ []) ps in
+    let halves : put_by_name q ns ≡ or_else (put_by_name q front) (put_by_name q rest) = ap (put_by_name q) (sym (front_rest p ns)) ∙ put_named_both q front rest in
+    let one : Option Put = put_by_name q (p ∷ []) in
+    let split : put_by_name q (p ∷ ps) ≡ or_else one (put_by_name q ps) = put_named_both q (p ∷ []) ps in
     put_named_both q front (p ∷ weave ps rest)
-    ∙ ap (or_else (put_named q front)) (put_named_both q (p ∷ []) (weave ps rest) ∙ ap (or_else one) (find_weave q ps rest (λ there. last_none (put_named q front) (put_named q rest) (sym halves ∙ h (ap is_some split ∙ some_second one (put_named q ps) there)))))
-    ∙ shuffled (put_named q front) one (put_named q ps) (put_named q rest) (λ there. sym halves ∙ h (ap is_some split ∙ there))
+    ∙ ap (or_else (put_by_name q front)) (put_named_both q (p ∷ []) (weave ps rest) ∙ ap (or_else one) (find_weave q ps rest (λ there. last_none (put_by_name q front) (put_by_name q rest) (sym halves ∙ h (ap is_some split ∙ some_second one (put_by_name q ps) there)))))
+    ∙ shuffled (put_by_name q front) one (put_by_name q ps) (put_by_name q rest) (λ there. sym halves ∙ h (ap is_some split ∙ there))
     ∙ λ i. or_else (sym split i) (sym halves i)
   where
     last_none : (a b : Option Put) → or_else a b ≡ None → b ≡ None

@@ -9,7 +9,7 @@ use Rattle.rep_op.specs.declared.op.Put.{Put}
 use Rattle.rep_op.specs.Orders.{name_of}
 use Rattle.rep_model.proofs.Joins.{all-weaker}
 use Rattle.rep_entry.specs.declared.span.Span.{Span}
-use Rattle.rep_log.specs.Mail.{Range, covers, is_left, Above, Rising, NoneCovered}
+use Rattle.rep_log.specs.Mail.{Range, covers, is_uncovered, Above, Rising, NoneCovered}
 use Rattle.rep_entry.specs.Spans.{lies_in, IsFreeOutside, AreFreeOutside}
 use Rattle.rep_entry.specs.inner.Mail.{left_from, widened}
 use Rattle.rep_entry.proofs.Names.{not_after}
@@ -145,39 +145,39 @@ module _ (rs : List Range) where
   pub left_none : (at : ℕ) (ps : List Put) → NoneCovered rs (drop at ps) → ps ≡ left_from rs at ps
   left_none at ps h = sym (ap (λ xs. take at ps ++ xs) (left_all rs (drop at ps) h) ∙ take-append-drop at ps)
 
-  pub left_whole : (at : ℕ) (ps : List Put) → NoneCovered rs (take at ps) → left_from rs at ps ≡ filter (is_left rs) ps
-  left_whole at ps h = sym (ap (filter (is_left rs)) (sym (take-append-drop at ps)) ∙ filter-append (is_left rs) (take at ps) (drop at ps) ∙ ap (λ xs. xs ++ filter (is_left rs) (drop at ps)) (left_all rs (take at ps) h))
+  pub left_whole : (at : ℕ) (ps : List Put) → NoneCovered rs (take at ps) → left_from rs at ps ≡ filter (is_uncovered rs) ps
+  left_whole at ps h = sym (ap (filter (is_uncovered rs)) (sym (take-append-drop at ps)) ∙ filter-append (is_uncovered rs) (take at ps) (drop at ps) ∙ ap (λ xs. xs ++ filter (is_uncovered rs) (drop at ps)) (left_all rs (take at ps) h))
 
   pub left_long : (at : ℕ) (ps : List Put) → at ≤ length ps → at ≤ length (left_from rs at ps)
-  left_long at ps le = let both = length-append (take at ps) (filter (is_left rs) (drop at ps)) in let front = length-take-le at ps le in omega (arith, both, front)
+  left_long at ps le = let both = length-append (take at ps) (filter (is_uncovered rs) (drop at ps)) in let front = length-take-le at ps le in omega (arith, both, front)
 
   -- the message at the place stays, or goes
-  pub stays : (at : ℕ) (ps rest : List Put) (d : Put) → rest ≡ filter (is_left rs) (drop (suc at) ps) → at < length ps → is_left rs (get_or (take (suc at) ps ++ rest) at d) ≡ true → take (suc at) ps ++ rest ≡ left_from rs at ps
+  pub stays : (at : ℕ) (ps rest : List Put) (d : Put) → rest ≡ filter (is_uncovered rs) (drop (suc at) ps) → at < length ps → is_uncovered rs (get_or (take (suc at) ps ++ rest) at d) ≡ true → take (suc at) ps ++ rest ≡ left_from rs at ps
   stays at [] rest d is lt left = absurd (omega (arith, lt))
-  stays zero (p ∷ ps) rest d is lt left = ap (λ xs. p ∷ xs) is ∙ ap (λ b. cond b (p ∷ filter (is_left rs) ps) (filter (is_left rs) ps)) (sym left)
+  stays zero (p ∷ ps) rest d is lt left = ap (λ xs. p ∷ xs) is ∙ ap (λ b. cond b (p ∷ filter (is_uncovered rs) ps) (filter (is_uncovered rs) ps)) (sym left)
   stays (suc at) (p ∷ ps) rest d is lt left = ap (λ xs. p ∷ xs) (stays at ps rest d is (omega (arith, lt)) left)
 
-  pub goes : (at : ℕ) (ps rest : List Put) (d : Put) → rest ≡ filter (is_left rs) (drop (suc at) ps) → at < length ps → is_left rs (get_or (take (suc at) ps ++ rest) at d) ≡ false → remove (take (suc at) ps ++ rest) at ≡ left_from rs at ps
+  pub goes : (at : ℕ) (ps rest : List Put) (d : Put) → rest ≡ filter (is_uncovered rs) (drop (suc at) ps) → at < length ps → is_uncovered rs (get_or (take (suc at) ps ++ rest) at d) ≡ false → remove (take (suc at) ps ++ rest) at ≡ left_from rs at ps
   goes at [] rest d is lt gone = absurd (omega (arith, lt))
-  goes zero (p ∷ ps) rest d is lt gone = is ∙ ap (λ b. cond b (p ∷ filter (is_left rs) ps) (filter (is_left rs) ps)) (sym gone)
+  goes zero (p ∷ ps) rest d is lt gone = is ∙ ap (λ b. cond b (p ∷ filter (is_uncovered rs) ps) (filter (is_uncovered rs) ps)) (sym gone)
   goes (suc at) (p ∷ ps) rest d is lt gone = ap (λ xs. p ∷ xs) (goes at ps rest d is (omega (arith, lt)) gone)
 
   module _ (from count : ℕ) (ps : List Put) (front : NoneCovered rs (take from ps)) (back : NoneCovered rs (drop count (drop from ps))) where
-    parts : filter (is_left rs) ps ≡ take from ps ++ (filter (is_left rs) (take count (drop from ps)) ++ drop count (drop from ps))
+    parts : filter (is_uncovered rs) ps ≡ take from ps ++ (filter (is_uncovered rs) (take count (drop from ps)) ++ drop count (drop from ps))
     parts =
         let rest = drop from ps in
-        let second = ap (filter (is_left rs)) (sym (take-append-drop count rest)) ∙ filter-append (is_left rs) (take count rest) (drop count rest) ∙ ap (λ xs. filter (is_left rs) (take count rest) ++ xs) (left_all rs (drop count rest) back) in
-        ap (filter (is_left rs)) (sym (take-append-drop from ps)) ∙ filter-append (is_left rs) (take from ps) rest ∙ (λ i. left_all rs (take from ps) front i ++ second i)
+        let second = ap (filter (is_uncovered rs)) (sym (take-append-drop count rest)) ∙ filter-append (is_uncovered rs) (take count rest) (drop count rest) ∙ ap (λ xs. filter (is_uncovered rs) (take count rest) ++ xs) (left_all rs (drop count rest) back) in
+        ap (filter (is_uncovered rs)) (sym (take-append-drop from ps)) ∙ filter-append (is_uncovered rs) (take from ps) rest ∙ (λ i. left_all rs (take from ps) front i ++ second i)
 
     -- how many are left
-    pub counted : from + count ≤ length ps → length ps - count + count_by (is_left rs) (take count (drop from ps)) ≡ count_by (is_left rs) ps
+    pub counted : from + count ≤ length ps → length ps - count + count_by (is_uncovered rs) (take count (drop from ps)) ≡ count_by (is_uncovered rs) ps
     counted le =
         let rest = drop from ps in
         let asked = take count rest in
-        let all = sym (length-filter (is_left rs) ps) ∙ ap length parts in
-        let outer = length-append (take from ps) (filter (is_left rs) asked ++ drop count rest) in
-        let inner = length-append (filter (is_left rs) asked) (drop count rest) in
-        let mid = length-filter (is_left rs) asked in
+        let all = sym (length-filter (is_uncovered rs) ps) ∙ ap length parts in
+        let outer = length-append (take from ps) (filter (is_uncovered rs) asked ++ drop count rest) in
+        let inner = length-append (filter (is_uncovered rs) asked) (drop count rest) in
+        let mid = length-filter (is_uncovered rs) asked in
         let a = length-take-le from ps (omega (arith, le)) in
         let b = length-drop from ps in
         let d = length-drop count rest in

@@ -7,8 +7,8 @@ use Rattle.rep_log.specs.Origins.{origins_after}
 use Rattle.rep_entry.specs.Entries.{base_of, left_on}
 
 -- the entry with the change
-abbrev pub applied : Entry → Change → Entry
-applied entry change = record {
+abbrev pub entry_applied : Entry → Change → Entry
+entry_applied entry change = record {
   seen = record {
     stamp = stamp_on entry.seen.stamp change.log;
     prefix = prefix_on entry.seen.prefix change.log;

@@ -17,7 +17,7 @@ use Rattle.rep_log.specs.declared.log.Log.{Log}
 use Rattle.rep_entry.specs.declared.entry.Entry.{Entry}
 use Rattle.rep_entry.specs.declared.fresh.Fresh.{Fresh}
 use Rattle.rep_log.specs.Logs.{IsFoldedOf, Whole, IsFolded, stamp_on, prefix_on, session_on, known_on}
-use Rattle.rep_log.specs.Mail.{Range, covers, Rising, NoneCovered, InOne, is_left, weave}
+use Rattle.rep_log.specs.Mail.{Range, covers, Rising, NoneCovered, InOne, is_uncovered, weave}
 use Rattle.rep_entry.specs.Spans.{IsFreeOutside, AreFreeOutside}
 use Rattle.rep_log.specs.Origins.{ranges_in, AreOrigins, origins_after, ranges_on}
 use Rattle.rep_log.specs.Kept.{kept_ops}
@@ -46,8 +46,8 @@ abbrev pub messages : List ((ℕ × ℕ) × Put) → List Put
 messages es = map (λ e. e.1) es
 
 -- the operations that are kept of the client
-abbrev pub row_of : List ℕ → Entry → List Op
-row_of c entry = kept_ops c entry.known entry.seen.pending (ranges_in entry.acks)
+abbrev pub entry_row : List ℕ → Entry → List Op
+entry_row c entry = kept_ops c entry.known entry.seen.pending (ranges_in entry.acks)
 
 -- Stamp, prefix and session are those of the operations, none of which is below the stamp. Messages
 -- ascend, and none is acknowledged. The counts are those of what is kept.
@@ -59,8 +59,8 @@ pub record IsEntry (c : List ℕ) (entry : Entry) : Type 0 where
   pub none_covered : NoneCovered (ranges_in entry.acks) entry.seen.pending
   pub made : AreMade entry.seen.pending
   pub origins : AreOrigins entry.acks
-  pub parked : entry.parked ≡ length (parked c (row_of c entry))
-  pub exceptions : entry.exceptions ≡ capped (exceptions c (row_of c entry))
+  pub parked : entry.parked ≡ length (parked c (entry_row c entry))
+  pub exceptions : entry.exceptions ≡ capped (exceptions c (entry_row c entry))
 
 -- the session operations of an entry once a log, if one is staged, is in their place
 abbrev pub whole_after : Entry → Option Log → Whole
@@ -86,7 +86,8 @@ base_of entry =
 
 -- the messages that wait once others came, and acknowledgements
 abbrev pub left_on : Base → List Put → Option (List (ℕ × List (ℕ × ℕ))) → List Put
-left_on base news acks = filter (is_left (ranges_on base.ranges acks)) (weave base.waiting news)
+left_on base news acks =
+    filter (is_uncovered (ranges_on base.ranges acks)) (weave base.waiting news)
 
 -- the operations that are kept of the client with a log, new messages and acknowledgements; no log,
 -- and no acknowledgements, leave what was there
@@ -123,6 +124,6 @@ pub record IsFresh (c : List ℕ) (entry : Entry) (fresh : Fresh) : Type 0 where
 
 -- one operation more of the client: the change stays one, and what it keeps is what must be kept of
 -- what it kept and the operation
-abbrev pub IsStep : List ℕ → Entry → Fresh → Fresh → Op → Type 0
-IsStep c entry old new op =
+abbrev pub IsFreshStep : List ℕ → Entry → Fresh → Fresh → Op → Type 0
+IsFreshStep c entry old new op =
     IsFresh c entry new × Same (fresh_row c entry new) (keep (fresh_row c entry old ++ op ∷ []))

@@ -6,7 +6,7 @@ use Rattle.std.specs.FinMap.{find, is_sorted}
 use Rattle.sn_session.specs.declared.change.SessionOp.{SessionOp}
 use Rattle.rep_op.specs.declared.op.Stamp.{Stamp}
 use Rattle.rep_op.specs.declared.op.Op.{Op}
-use Rattle.rep_op.specs.declared.op.Op.TheVariants.{Session as OfSession, Put as OfPut, Ack, Retain as OfRetain}
+use Rattle.rep_op.specs.declared.op.Op.TheVariants.{Ack}
 use Rattle.rep_op.specs.Orders.{client_cmp, operation_cmp}
 use Rattle.rep_op.specs.Sets.{operations, puts}
 use Rattle.rep_model.specs.declared.fault.TheConstants.{MOST_PENDING, MOST_PARKED, MOST_EXCEPTIONS}
@@ -15,7 +15,7 @@ use Rattle.rep_shared.specs.Rows.{own}
 use Rattle.rep_shared.specs.Steps.{capped}
 use Rattle.rep_log.specs.declared.log.Log.{Log}
 use Rattle.rep_entry.specs.declared.change.Change.{Change}
-use Rattle.rep_log.specs.Logs.{IsFolded, all_of, whole_of}
+use Rattle.rep_log.specs.Logs.{IsFolded, all_in_log, whole_of}
 use Rattle.rep_log.specs.Mail.{Range, Rising, NoneCovered, InOne, weave}
 use Rattle.rep_entry.specs.Spans.{AreFreeOutside}
 use Rattle.rep_log.specs.Origins.{AreOrigins, ranges_on}
@@ -36,11 +36,9 @@ pub record IsChange (change : Change) : Type 0 where
 -- ---- what contracts see of a client: its operations
 
 -- the origin and the range of an acknowledgement; none of any other operation
-abbrev pub range_of : Op → Option Range
-range_of (OfSession c stamp counter change) = None
-range_of (OfPut c put) = None
-range_of (Ack c origin first last) = Some (origin, (first, last))
-range_of (OfRetain topic kept) = None
+abbrev pub acked_range : Op → Option Range
+acked_range (Ack c origin first last) = Some (origin, (first, last))
+acked_range op = None
 
 -- what a change builds on, among a client's operations
 abbrev pub base_in : List ℕ → List Op → Base
@@ -48,7 +46,7 @@ base_in c ops =
     record {
       known = operations c ops;
       waiting = messages (puts c ops);
-      ranges = filter_map range_of ops;
+      ranges = filter_map acked_range ops;
     }
 
 -- the operations that are kept of a client with the change
@@ -56,16 +54,16 @@ abbrev pub planned_row : List ℕ → Base → Change → List Op
 planned_row c base change = row_on c base change.log change.news.items change.acks
 
 -- the operations that are kept of each client that the changes name
-abbrev pub planned : List (List ℕ × List Op) → List (List ℕ × Change) → List (List ℕ × List Op)
-planned rows gs = map (λ g. (g.0, planned_row g.0 (base_in g.0 (own g.0 rows)) g.1)) gs
+abbrev pub planned_rows : List (List ℕ × List Op) → List (List ℕ × Change) → List (List ℕ × List Op)
+planned_rows rows gs = map (λ g. (g.0, planned_row g.0 (base_in g.0 (own g.0 rows)) g.1)) gs
 
 -- if these operations were there, the log is folded, and there is room for all
 abbrev pub IsLogFit : List ((Stamp × ℕ) × SessionOp) → Option Log → ℕ → Type 0
 IsLogFit known None room = ⊤
 IsLogFit known (Some log) room =
     IsFolded (whole_of known log)
-    × T (is_sorted operation_cmp (all_of known log))
-    × AreChanges (all_of known log)
+    × T (is_sorted operation_cmp (all_in_log known log))
+    × AreChanges (all_in_log known log)
     × (log.anew ≡ false → length known + length log.more ≤ room)
 
 -- no acknowledgements are staged, or ranges of origins that ascend

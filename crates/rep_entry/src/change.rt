@@ -13,7 +13,7 @@ ghost use Rattle.rep_log.specs.Origins.{origins_after};
 ghost use Rattle.rep_entry.specs.Entries.{base_of};
 ghost use Rattle.rep_entry.specs.Staging.{IsFit, IsChange, IsLogFit};
 ghost use Rattle.rep_entry.specs.inner.Entries.{with_log};
-ghost use Rattle.rep_entry.specs.Applied.{applied};
+ghost use Rattle.rep_entry.specs.Applied.{entry_applied};
 
 use super::entry::Entry;
 use super::settling::wait_on;
@@ -54,7 +54,7 @@ pub fn put_into(place: &mut Entry, change: Change)
     requires change { IsChange change }
     requires fit { (c : List ℕ) × IsFit c (base_of place.old) change }
     requires rising { Rising place.old.seen.pending }
-    ensures { place.new ≡ applied place.old change }
+    ensures { place.new ≡ entry_applied place.old change }
 {
     let Change {
         log,

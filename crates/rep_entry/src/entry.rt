@@ -26,13 +26,13 @@ pub struct Entry {
 }
 
 impl Entry {
-    ghost use Rattle.rep_entry.specs.Entries.{IsEntry, row_of};
+    ghost use Rattle.rep_entry.specs.Entries.{IsEntry, entry_row};
     ghost use Rattle.rep_entry.specs.Applied.{nothing_held};
 
     /// The place of a client of which nothing is known.
     pub fn empty(alloc: Global) -> Entry
         ensures entry { (c : List ℕ) → IsEntry c result }
-        ensures row { (c : List ℕ) → row_of c result ≡ [] }
+        ensures row { (c : List ℕ) → entry_row c result ≡ [] }
         ensures pending { result.seen.pending ≡ [] }
         ensures session { result.seen.session ≡ None }
         ensures nothing { result ≡ nothing_held }
@@ -69,7 +69,7 @@ impl Entry {
 
     /// Whether something is kept of the client.
     pub fn has_operations(&self) -> bool
-        ensures { (c : List ℕ) → result ≡ has_any (row_of c self.now) }
+        ensures { (c : List ℕ) → result ≡ has_any (entry_row c self.now) }
     {
         let log = any_change(self.known.as_slice());
         let mail = any_put(self.seen.pending.as_slice());

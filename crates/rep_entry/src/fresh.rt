@@ -10,7 +10,7 @@ ghost use Rattle.rep_op.specs.WellMade.{is_well_made};
 ghost use Rattle.rep_shared.specs.Rows.{IsOwnOp};
 ghost use Rattle.rep_entry.specs.declared.entry.Entry.{Entry as AnEntry};
 ghost use Rattle.rep_log.specs.Logs.{known_on, whole_of};
-ghost use Rattle.rep_log.specs.Mail.{covers, put_named, Rising, is_left, weave};
+ghost use Rattle.rep_log.specs.Mail.{covers, put_by_name, Rising, is_uncovered, weave};
 ghost use Rattle.rep_entry.specs.Spans.{AreFreeOutside};
 ghost use Rattle.rep_log.specs.Origins.{ranges_in, origins_after};
 ghost use Rattle.rep_entry.specs.Entries.{whole_after};
@@ -42,14 +42,14 @@ pub struct Fresh {
 }
 
 impl Fresh {
-    ghost use Rattle.rep_entry.specs.Entries.{IsEntry, row_of, IsFresh, fresh_row, IsStep, base_of, left_on};
+    ghost use Rattle.rep_entry.specs.Entries.{IsEntry, entry_row, IsFresh, fresh_row, IsFreshStep, base_of, left_on};
     ghost use Rattle.rep_entry.specs.Staging.{planned_row, IsChange, IsFit};
 
     /// A client of whom nothing is changed yet.
     pub fn new(alloc: Global) -> Fresh
         ensures fresh { (c : List ℕ) (entry : AnEntry) → IsEntry c entry → IsFresh c entry result }
         ensures row { (c : List ℕ) (entry : AnEntry) → IsEntry c entry
-            → fresh_row c entry result ≡ row_of c entry }
+            → fresh_row c entry result ≡ entry_row c entry }
     {
         Fresh {
             log: None,
@@ -66,7 +66,7 @@ impl Fresh {
         ensures { (c : List ℕ)
             → IsFresh c entry.now self.old
             → IsOwnOp c op.now
-            → OnOk result (IsStep c entry.now self.old self.new op.now) }
+            → OnOk result (IsFreshStep c entry.now self.old self.new op.now) }
     {
         match op {
             Op::Session {
@@ -98,7 +98,7 @@ impl Fresh {
         ensures { (c : List ℕ)
             → IsFresh c entry.now self.old
             → IsTrue (is_well_made (OfSession c name.0 name.1 change.now))
-            → OnOk result (IsStep c entry.now self.old self.new
+            → OnOk result (IsFreshStep c entry.now self.old self.new
             (OfSession c name.0 name.1 change.now)) }
     {
         if is_known(&entry.known, &self.log, name) {
@@ -130,7 +130,7 @@ impl Fresh {
         requires { (1 ≤ origin) × (1 ≤ first) × (first ≤ last) }
         ensures { (c : List ℕ)
             → IsFresh c entry.now self.old
-            → OnOk result (IsStep c entry.now self.old self.new (Ack c origin first last)) }
+            → OnOk result (IsFreshStep c entry.now self.old self.new (Ack c origin first last)) }
     {
         let mut acks = taken(alloc, &entry.acks, self.acks.take())?;
         acks.add(alloc, origin, first, last)?;
@@ -145,7 +145,7 @@ impl Fresh {
         ensures { (c : List ℕ)
             → IsFresh c entry.now self.old
             → IsTrue (is_well_made (OfPut c put.now))
-            → OnOk result (IsStep c entry.now self.old self.new (OfPut c put.now)) }
+            → OnOk result (IsFreshStep c entry.now self.old self.new (OfPut c put.now)) }
     {
         if self.has(entry, put) {
             return Ok(());
@@ -160,7 +160,7 @@ impl Fresh {
         ensures { Rising entry.now.seen.pending
             → result ≡ (list_any (covers (name_of put.now))
             (ranges_in (origins_after entry.now.acks self.now.acks))
-            || is_some (put_named (name_of put.now) entry.now.seen.pending)
+            || is_some (put_by_name (name_of put.now) entry.now.seen.pending)
             || is_some (find put_cmp (name_of put.now) self.now.news)) }
     {
         latest(&entry.acks, &self.acks).covers(put.seq, put.origin)
@@ -231,7 +231,7 @@ fn prepared(
         → Rising news.now
         → AreFreeOutside span (ranges_in acks.now) entry.now.seen.pending
         → AreFreeOutside span (ranges_in acks.now) news.now
-        → IfOk result (λ made. made.2 ≡ length (filter (is_left (ranges_in acks.now))
+        → IfOk result (λ made. made.2 ≡ length (filter (is_uncovered (ranges_in acks.now))
         (weave entry.now.seen.pending news.now))) }
     ensures parked { IfOk result (λ made. made.3 ≡ parked_on entry.now log.now) }
 {

@@ -7,7 +7,7 @@ ghost use Rattle.std.specs.List.Sorted.{IsSearchInRange};
 ghost use Rattle.std.specs.Option.{option_copied};
 ghost use Rattle.sn_tables.specs.inner.Tables.{IsPlace};
 ghost use Rattle.rep_op.specs.Orders.{name_of, put_cmp};
-ghost use Rattle.rep_log.specs.Mail.{put_named, Rising};
+ghost use Rattle.rep_log.specs.Mail.{put_by_name, Rising};
 
 use rep_ops::Put;
 
@@ -23,7 +23,7 @@ pub(crate) fn place_of_name(puts: &[Put], seq: u64, origin: u8) -> Result<usize,
 
 /// The message of that name among messages in order. The time is logarithmic.
 pub fn find_put<'a>(puts: &'a [Put], seq: u64, origin: u8) -> Option<&'a Put>
-    ensures { Rising puts.now → option_copied result ≡ put_named (seq, origin) puts.now }
+    ensures { Rising puts.now → option_copied result ≡ put_by_name (seq, origin) puts.now }
 {
     match place_of_name(puts, seq, origin) {
         Ok(at) => Some(&puts[at]),

@@ -13,7 +13,7 @@ ghost use Rattle.rep_log.specs.Origins.{ranges_in};
 use super::span::{Span, between};
 use super::weaving::{goes_before, merge};
 use octets::NoMemory;
-use rep_log::{Acks, put_behind};
+use rep_log::{Acks, append_reusing};
 use rep_model::Puts;
 use rep_ops::Put;
 use std::collections::VecDeque;
@@ -23,14 +23,14 @@ const FEW: usize = 8;
 
 /// Whether the message is not acknowledged.
 fn is_left(acks: &Acks, put: &Put) -> bool
-    ensures { result ≡ mail.is_left (ranges_in acks.now) put.now }
+    ensures { result ≡ mail.is_uncovered (ranges_in acks.now) put.now }
 {
     !acks.covers(put.seq, put.origin)
 }
 
 /// Drops the messages that are acknowledged. All are asked.
 fn drop_any(all: &mut Vec<Put>, acks: &Acks)
-    ensures { all.new.items ≡ filter (mail.is_left (ranges_in acks.now)) all.old.items }
+    ensures { all.new.items ≡ filter (mail.is_uncovered (ranges_in acks.now)) all.old.items }
 {
     all.retain(|put| is_left(acks, put));
 }
@@ -53,7 +53,7 @@ fn drop_each(all: &mut Vec<Put>, from: usize, count: usize, acks: &Acks)
     requires bound { from + count ≤ length all.old.items }
     requires front { NoneCovered (ranges_in acks.now) (take from all.old.items) }
     requires back { NoneCovered (ranges_in acks.now) (drop count (drop from all.old.items)) }
-    ensures { all.new.items ≡ filter (mail.is_left (ranges_in acks.now)) all.old.items }
+    ensures { all.new.items ≡ filter (mail.is_uncovered (ranges_in acks.now)) all.old.items }
 {
     let mut at = from + count;
     while from < at {
@@ -67,7 +67,7 @@ fn drop_each(all: &mut Vec<Put>, from: usize, count: usize, acks: &Acks)
 fn drop_covered(all: &mut Vec<Put>, span: Span, acks: &Acks)
     requires rising { Rising all.old.items }
     requires free { AreFreeOutside span (ranges_in acks.now) all.old.items }
-    ensures { all.new.items ≡ filter (mail.is_left (ranges_in acks.now)) all.old.items }
+    ensures { all.new.items ≡ filter (mail.is_uncovered (ranges_in acks.now)) all.old.items }
 {
     let (from, count) = between(all.as_slice(), span);
     if count > FEW {
@@ -78,7 +78,7 @@ fn drop_covered(all: &mut Vec<Put>, span: Span, acks: &Acks)
 }
 
 /// Whether the new messages come after all that wait.
-fn come_behind(waiting: &[Put], news: &[Put]) -> bool
+fn all_come_after(waiting: &[Put], news: &[Put]) -> bool
     requires { Rising waiting.now }
     ensures { IsTrue result → weave waiting.now news.now ≡ waiting.now ++ news.now }
 {
@@ -100,7 +100,7 @@ fn are_behind(last: &Put, news: &[Put]) -> bool
 
 /// The messages that wait, and new ones. Where none is new nothing is moved, and where all come
 /// after those that wait, these stay where they are as long as there is room.
-fn joined(room: Vec<Put>, mut waiting: Vec<Put>, news: Vec<Put>) -> Vec<Put>
+fn with_new_messages(room: Vec<Put>, mut waiting: Vec<Put>, news: Vec<Put>) -> Vec<Put>
     requires empty { room.items ≡ [] }
     requires room { (length news.items == 0) ≡ false
         → length waiting.items + length news.items ≤ vec_capacity room }
@@ -110,8 +110,8 @@ fn joined(room: Vec<Put>, mut waiting: Vec<Put>, news: Vec<Put>) -> Vec<Put>
     if news.as_slice().is_empty() {
         return waiting;
     }
-    if come_behind(waiting.as_slice(), news.as_slice()) {
-        put_behind(&mut waiting, news, room);
+    if all_come_after(waiting.as_slice(), news.as_slice()) {
+        append_reusing(&mut waiting, news, room);
         return waiting;
     }
     merge(room, VecDeque::from_vec(waiting), VecDeque::from_vec(news))
@@ -162,35 +162,41 @@ pub(crate) fn wait_on(
     requires rising { Rising waiting }
     requires woven { Rising (weave waiting news.items) }
     requires free { AreFreeOutside span (ranges_in acks.now) (weave waiting news.items) }
-    ensures { result ≡ filter (mail.is_left (ranges_in acks.now)) (weave waiting news.items) }
+    ensures { result ≡ filter (mail.is_uncovered (ranges_in acks.now)) (weave waiting news.items) }
 {
     let soonest = waiting.soonest_with(news.as_slice());
     let count = waiting.len().saturating_add(news.len());
     let waiting = waiting.into_items();
-    let left = settled(room, waiting, news, span, acks);
+    let left = without_acknowledged(room, waiting, news, span, acks);
     puts_of(left, count, soonest)
 }
 
 /// The messages that wait, and new ones, without those that are acknowledged, which lie in the
 /// span.
-fn settled(room: Vec<Put>, waiting: Vec<Put>, news: Vec<Put>, span: Span, acks: &Acks) -> Vec<Put>
+fn without_acknowledged(
+    room: Vec<Put>,
+    waiting: Vec<Put>,
+    news: Vec<Put>,
+    span: Span,
+    acks: &Acks,
+) -> Vec<Put>
     requires empty { room.items ≡ [] }
     requires room { (length news.items == 0) ≡ false
         → length waiting.items + length news.items ≤ vec_capacity room }
     requires rising { Rising waiting.items }
     requires woven { Rising (weave waiting.items news.items) }
     requires free { AreFreeOutside span (ranges_in acks.now) (weave waiting.items news.items) }
-    ensures { result.items ≡ filter (mail.is_left (ranges_in acks.now))
+    ensures { result.items ≡ filter (mail.is_uncovered (ranges_in acks.now))
         (weave waiting.items news.items) }
 {
-    let mut all = joined(room, waiting, news);
+    let mut all = with_new_messages(room, waiting, news);
     drop_covered(&mut all, span, acks);
     all
 }
 
 /// How many of the messages are not acknowledged. All are asked.
 fn count_each(puts: &[Put], acks: &Acks) -> usize
-    ensures count { result ≡ count_by (mail.is_left (ranges_in acks.now)) puts.now }
+    ensures count { result ≡ count_by (mail.is_uncovered (ranges_in acks.now)) puts.now }
     ensures bound { result ≤ length puts.now }
 {
     puts.iter().filter(|put| is_left(acks, *put)).count()
@@ -200,7 +206,7 @@ fn count_each(puts: &[Put], acks: &Acks) -> usize
 fn count_left(puts: &[Put], span: Span, acks: &Acks) -> usize
     ensures { Rising puts.now
         → AreFreeOutside span (ranges_in acks.now) puts.now
-        → result ≡ count_by (mail.is_left (ranges_in acks.now)) puts.now }
+        → result ≡ count_by (mail.is_uncovered (ranges_in acks.now)) puts.now }
 {
     let (from, count) = between(puts, span);
     let asked = puts.split_at(from).1.split_at(count).0;
@@ -220,7 +226,7 @@ pub(crate) fn count_settled(
         → AreFreeOutside span (ranges_in acks.now) waiting.now
         → AreFreeOutside span (ranges_in acks.now) news.now
         → IfOk result (λ count. count
-        ≡ length (filter (mail.is_left (ranges_in acks.now)) (weave waiting.now news.now))) }
+        ≡ length (filter (mail.is_uncovered (ranges_in acks.now)) (weave waiting.now news.now))) }
 {
     sum(
         count_left(waiting, span, acks),

@@ -7,7 +7,7 @@ use Rattle.std.specs.Map.{keys_of}
 use Rattle.std.specs.FinMap.{find}
 use Rattle.rep_model.specs.Limits.{above_a_gap, sum_to}
 use Rattle.rep_shared.specs.Rows.{or_nothing}
-use Rattle.rep_log.specs.Origins.{origins_of, ranges_at, above_gaps}
+use Rattle.rep_log.specs.Origins.{origins_of, ranges_of_origin, origins_above_gaps}
 
 none_above : (last o : ℕ) (es : List (ℕ × List (ℕ × ℕ))) → AllByRecursion (λ k. is_lt (nat_cmp last k) ≡ false) (keys_of es) → last < o → find nat_cmp o es ≡ None
 none_above last o [] h above = refl
@@ -20,7 +20,7 @@ none_above last o (e ∷ es) h above =
     not_above : (last o k : ℕ) → is_eq (nat_cmp o k) ≡ true → is_lt (nat_cmp last k) ≡ false → last < o → ⊥
     not_above last o k t h above = grind (arith, nat_tests)
 
-pub nothing_above : (last : ℕ) (es : List (ℕ × List (ℕ × ℕ))) → AllByRecursion (λ k. is_lt (nat_cmp last k) ≡ false) (keys_of es) → (o : ℕ) → last < o → ranges_at o es ≡ []
+pub nothing_above : (last : ℕ) (es : List (ℕ × List (ℕ × ℕ))) → AllByRecursion (λ k. is_lt (nat_cmp last k) ≡ false) (keys_of es) → (o : ℕ) → last < o → ranges_of_origin o es ≡ []
 nothing_above last es h o above = ap or_nothing (none_above last o es h above)
 
 by_place : {X : Type 0} (P : X → Type 0) (xs : List X) → All P xs → AllByRecursion P xs
@@ -35,11 +35,11 @@ up_to last es h = subst (AllByRecursion (λ k. is_lt (nat_cmp last k) ≡ false)
     same (e ∷ es) = ap (λ rest. e.0 ∷ rest) (same es)
 
 -- so no origin above it counts
-pub above_last : (es : List (ℕ × List (ℕ × ℕ))) (n d m : ℕ) → m ≡ n + d → ((o : ℕ) → n < o → ranges_at o es ≡ []) → above_gaps es m ≡ above_gaps es n
-unfolding above_gaps
-above_last es n zero m is none = ap (sum_to (λ (o : ℕ). above_a_gap (ranges_at o es))) (let e : m ≡ n = omega (arith, is) in e)
+pub above_last : (es : List (ℕ × List (ℕ × ℕ))) (n d m : ℕ) → m ≡ n + d → ((o : ℕ) → n < o → ranges_of_origin o es ≡ []) → origins_above_gaps es m ≡ origins_above_gaps es n
+unfolding origins_above_gaps
+above_last es n zero m is none = ap (sum_to (λ (o : ℕ). above_a_gap (ranges_of_origin o es))) (let e : m ≡ n = omega (arith, is) in e)
 above_last es n (suc d) m is none =
-    let f = λ (o : ℕ). above_a_gap (ranges_at o es) in
+    let f = λ (o : ℕ). above_a_gap (ranges_of_origin o es) in
     let here : f (suc (n + d)) ≡ 0 = ap above_a_gap (none (suc (n + d)) (omega arith)) in
     ap (sum_to f) (let e : m ≡ suc (n + d) = omega (arith, is) in e)
     ∙ ap (λ k. k + sum_to f (n + d)) here

@@ -12,7 +12,7 @@ use Rattle.sn_session.specs.declared.session.Session.{Session}
 use Rattle.sn_session.specs.declared.change.SessionOp.{SessionOp}
 use Rattle.rep_op.specs.declared.op.Stamp.{Stamp}
 use Rattle.rep_op.specs.Orders.{stamp_cmp, operation_cmp}
-use Rattle.rep_model.specs.Views.{greatest, greater, take_stamp, names, gapless, then_more, session_of, after_change}
+use Rattle.rep_model.specs.Views.{greatest, greater, take_stamp, names, gapless, then_more, session_made, after_change}
 use Rattle.rep_model.specs.Keep.{is_below}
 use Rattle.rep_model.proofs.Readers.{operation_total, operation_exact, stamp_total, stamp_exact}
 use Rattle.rep_log.specs.Logs.{visible_in, history_in, IsFoldedOf, IsKeptIn}
@@ -56,7 +56,7 @@ length_append : {A : Type 0} (xs ys : List A) → length (xs ++ ys) ≡ length x
 length_append [] ys = omega arith
 length_append (x ∷ xs) ys = let e = length_append xs ys in omega (arith, e)
 
-pub replayed_grown : (at more : ℕ → Option SessionOp) → Grows at more → (session : Option Session) (n : ℕ) → n ≡ length (gapless at 256 0) → session ≡ session_of (gapless at 256 0) → IsReplayed more session n
+pub replayed_grown : (at more : ℕ → Option SessionOp) → Grows at more → (session : Option Session) (n : ℕ) → n ≡ length (gapless at 256 0) → session ≡ session_made (gapless at 256 0) → IsReplayed more session n
 replayed_grown at more h session n is made =
     let e = gapless_grow at more h 256 0 in
     let m = length (gapless at 256 0) in
@@ -64,7 +64,7 @@ replayed_grown at more h session n is made =
     let all : gapless more 256 0 ≡ gapless at 256 0 ++ gapless more (256 - n) n = e ∙ ap (λ rest. gapless at 256 0 ++ rest) from in
     record {
       prefix = ap length all ∙ length_append (gapless at 256 0) (gapless more (256 - n) n) ∙ ap (λ k. k + length (gapless more (256 - n) n)) (sym is);
-      made = ap session_of all ∙ fold_append after_change None (gapless at 256 0) (gapless more (256 - n) n) ∙ ap (λ s. fold after_change s (gapless more (256 - n) n)) (sym made);
+      made = ap session_made all ∙ fold_append after_change None (gapless at 256 0) (gapless more (256 - n) n) ∙ ap (λ s. fold after_change s (gapless more (256 - n) n)) (sym made);
     }
 
 -- ---- the visible stamp
@@ -214,10 +214,10 @@ module _ (s : Stamp) (k : ℕ) (x : SessionOp) (es more : List ((Stamp × ℕ) �
     found = all_kept stamp grown more (high, none) (insert_found (s, k) x es more is);
   }
 
-  pub folded_other : (k == 0) ≡ false → (n : ℕ) (session : Option Session) → n ≡ length (history_in more stamp) → session ≡ session_of (history_in more stamp) → IsFoldedOf stamp n session more
+  pub folded_other : (k == 0) ≡ false → (n : ℕ) (session : Option Session) → n ≡ length (history_in more stamp) → session ≡ session_made (history_in more stamp) → IsFoldedOf stamp n session more
   folded_other later n session a b = record { visible = kept_visible grown more stamp (kept_other later); prefix = a; session = b; none_below = none_below_grown }
 
-  pub folded_take : (kept : List ((Stamp × ℕ) × SessionOp)) → k ≡ 0 → kept ≡ filter (λ e. not (is_below e.0.0 (Some s))) more → (n : ℕ) (session : Option Session) → n ≡ length (history_in kept (Some s)) → session ≡ session_of (history_in kept (Some s)) → IsFoldedOf (Some s) n session kept
+  pub folded_take : (kept : List ((Stamp × ℕ) × SessionOp)) → k ≡ 0 → kept ≡ filter (λ e. not (is_below e.0.0 (Some s))) more → (n : ℕ) (session : Option Session) → n ≡ length (history_in kept (Some s)) → session ≡ session_made (history_in kept (Some s)) → IsFoldedOf (Some s) n session kept
   folded_take kept zeroth are n session a b = record { visible = kept_visible grown kept (Some s) (kept_take kept zeroth are); prefix = a; session = b; none_below = none_below_take kept are }
 
   -- what was there is there

@@ -10,7 +10,7 @@ use Rattle.std.specs.Ordering.{is_lt, ordering_reverse, ordering_then}
 use Rattle.std.specs.FinMap.{find, put, is_sorted}
 use Rattle.std.specs.FinMap.Entries.{below_all, by_order}
 use Rattle.sn_session.specs.declared.change.SessionOp.{SessionOp}
-use Rattle.sn_tables.specs.inner.Tables.{AllAbove, IsAt, IsGap}
+use Rattle.sn_tables.specs.inner.Tables.{AllAbove, IsFoundAt, IsGap}
 use Rattle.sn_tables.proofs.Ascending.{Ascends}
 use Rattle.rep_op.specs.declared.op.Stamp.{Stamp}
 use Rattle.rep_op.specs.Orders.{stamp_cmp, operation_cmp}
@@ -74,7 +74,7 @@ module _ {K X : Type 0} (R : K → K → Ordering) where
     found_gap [] (suc i) h = absurd h
     found_gap (e ∷ es) (suc i) h = ap (λ r. cond (is_eq r) (Some e.1) (find R q es)) (reversed R total q e.0 Less h.0) ∙ found_gap es i h.1
 
-    pub found_at : (es : List (K × X)) (i : ℕ) (d : K × X) → IsAt (λ (e : K × X). R e.0 q) es i → find R q es ≡ Some (get_or es i d).1
+    pub found_at : (es : List (K × X)) (i : ℕ) (d : K × X) → IsFoundAt (λ (e : K × X). R e.0 q) es i → find R q es ≡ Some (get_or es i d).1
     found_at [] i d h = absurd h
     found_at (e ∷ es) zero d h = ap (λ r. cond (is_eq r) (Some e.1) (find R q es)) (reversed R total q e.0 Equal h.0)
     found_at (e ∷ es) (suc i) d h = ap (λ r. cond (is_eq r) (Some e.1) (find R q es)) (reversed R total q e.0 Less h.0) ∙ found_at es i d h.1
@@ -176,7 +176,7 @@ module _ (seen : Stamp) (prefix : ℕ) where
   wait_gap [] (suc i) h = absurd h
   wait_gap (e ∷ es) (suc i) h = let rest = wait_gap es i h.1 in let none = counted false e es (here e Less h.0) in omega (arith, rest, none)
 
-  pub wait_at : (es : List ((Stamp × ℕ) × SessionOp)) (i : ℕ) → IsAt sought es i → count_by (waits (Some seen) prefix) (keys_of es) ≡ length es - i
+  pub wait_at : (es : List ((Stamp × ℕ) × SessionOp)) (i : ℕ) → IsFoundAt sought es i → count_by (waits (Some seen) prefix) (keys_of es) ≡ length es - i
   wait_at [] i h = absurd h
   wait_at (e ∷ es) zero h = let rest = wait_above es h.1 in let one = counted true e es (here e Equal h.0) in omega (arith, rest, one)
   wait_at (e ∷ es) (suc i) h = let rest = wait_at es i h.1 in let none = counted false e es (here e Less h.0) in omega (arith, rest, none)
@@ -230,7 +230,7 @@ module _ (s : Stamp) where
   stay_gap [] (suc i) h = absurd h
   stay_gap (e ∷ es) (suc i) h = stay_gap es i h.1 ∙ passed e es h.0
 
-  pub stay_at : (es : List ((Stamp × ℕ) × SessionOp)) (i : ℕ) → IsAt before es i → filter stays (drop i es) ≡ filter stays es
+  pub stay_at : (es : List ((Stamp × ℕ) × SessionOp)) (i : ℕ) → IsFoundAt before es i → filter stays (drop i es) ≡ filter stays es
   stay_at [] i h = absurd h
   stay_at (e ∷ es) zero h = refl
   stay_at (e ∷ es) (suc i) h = stay_at es i h.1 ∙ passed e es h.0

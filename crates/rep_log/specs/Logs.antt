@@ -6,7 +6,7 @@ use Rattle.sn_session.specs.declared.session.Session.{Session}
 use Rattle.sn_session.specs.declared.change.SessionOp.{SessionOp}
 use Rattle.rep_op.specs.declared.op.Stamp.{Stamp}
 use Rattle.rep_op.specs.Orders.{stamp_cmp, operation_cmp}
-use Rattle.rep_model.specs.Views.{greatest, take_stamp, names, history_at, session_of}
+use Rattle.rep_model.specs.Views.{greatest, take_stamp, names, history_at, session_made}
 use Rattle.rep_model.specs.Keep.{is_below}
 use Rattle.rep_log.specs.declared.log.Log.{Log}
 use Rattle.rep_model.specs.declared.view.ClientView.{ClientView}
@@ -24,7 +24,7 @@ pub record IsFoldedOf (stamp : Option Stamp) (count : ℕ) (made : Option Sessio
     (es : List ((Stamp × ℕ) × SessionOp)) : Type 0 where
   pub visible : stamp ≡ visible_in es
   pub prefix : count ≡ length (history_in es stamp)
-  pub session : made ≡ session_of (history_in es stamp)
+  pub session : made ≡ session_made (history_in es stamp)
   pub none_below : AllByRecursion (λ (e : (Stamp × ℕ) × SessionOp). is_below e.0.0 stamp ≡ false) es
 
 -- all session operations of a client, and what they come to
@@ -39,12 +39,12 @@ abbrev pub IsFolded : Whole → Type 0
 IsFolded whole = IsFoldedOf whole.stamp whole.prefix whole.session whole.known
 
 -- of the operations that were there, those that stay where they are
-abbrev pub left_of : List ((Stamp × ℕ) × SessionOp) → Log → List ((Stamp × ℕ) × SessionOp)
-left_of known log = cond log.anew [] known
+abbrev pub left_in_log : List ((Stamp × ℕ) × SessionOp) → Log → List ((Stamp × ℕ) × SessionOp)
+left_in_log known log = cond log.anew [] known
 
 -- all operations of a log, if those of a list were there
-abbrev pub all_of : List ((Stamp × ℕ) × SessionOp) → Log → List ((Stamp × ℕ) × SessionOp)
-all_of known log = left_of known log ++ log.more
+abbrev pub all_in_log : List ((Stamp × ℕ) × SessionOp) → Log → List ((Stamp × ℕ) × SessionOp)
+all_in_log known log = left_in_log known log ++ log.more
 
 -- a log with all its operations: those of the list that stay, and those that it adds
 abbrev pub whole_of : List ((Stamp × ℕ) × SessionOp) → Log → Whole
@@ -53,7 +53,7 @@ whole_of known log =
       stamp = log.stamp;
       prefix = log.prefix;
       session = log.session;
-      known = all_of known log;
+      known = all_in_log known log;
     }
 
 -- ---- if a log is staged; without one all stays as it was
@@ -76,7 +76,7 @@ session_on session (Some log) = log.session
 -- the session operations, by the log if one is staged
 abbrev pub known_on : List ((Stamp × ℕ) × SessionOp) → Option Log → List ((Stamp × ℕ) × SessionOp)
 known_on known None = known
-known_on known (Some log) = all_of known log
+known_on known (Some log) = all_in_log known log
 
 -- the operations with what a view says of them
 abbrev pub whole_in : ClientView → List ((Stamp × ℕ) × SessionOp) → Whole

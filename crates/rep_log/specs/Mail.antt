@@ -44,12 +44,12 @@ abbrev pub named_puts : List Put → List ((ℕ × ℕ) × Put)
 named_puts ps = map (λ p. (name_of p, p)) ps
 
 -- the message of a name, if there is one
-abbrev pub put_named : ℕ × ℕ → List Put → Option Put
-put_named q ps = find put_cmp q (named_puts ps)
+abbrev pub put_by_name : ℕ × ℕ → List Put → Option Put
+put_by_name q ps = find put_cmp q (named_puts ps)
 
 -- a name is in one of them at most
 abbrev pub InOne : ℕ × ℕ → List Put → List Put → Type 0
-InOne name ps ns = is_some (put_named name ps) ≡ true → put_named name ns ≡ None
+InOne name ps ns = is_some (put_by_name name ps) ≡ true → put_by_name name ns ≡ None
 
 -- an origin with a range of acknowledged numbers
 abbrev pub Range : Type 0
@@ -60,8 +60,8 @@ abbrev pub covers : ℕ × ℕ → Range → Bool
 covers name r = (name.1 == r.0) && nat_le r.1.0 name.0 && nat_le name.0 r.1.1
 
 -- whether no range has the name of the message
-abbrev pub is_left : List Range → Put → Bool
-is_left ranges put = not (list_any (covers (name_of put)) ranges)
+abbrev pub is_uncovered : List Range → Put → Bool
+is_uncovered ranges put = not (list_any (covers (name_of put)) ranges)
 
 -- none of the messages is acknowledged
 abbrev pub NoneCovered : List Range → List Put → Type 0

@@ -14,8 +14,8 @@ abbrev pub origins_of : List (ℕ × Vec (ℕ × ℕ) Global) → List (ℕ × L
 origins_of entries = map (λ e. (e.0, e.1.items)) entries
 
 -- the ranges of one origin
-abbrev pub ranges_at : ℕ → List (ℕ × List (ℕ × ℕ)) → List (ℕ × ℕ)
-ranges_at origin origins = or_nothing (find nat_cmp origin origins)
+abbrev pub ranges_of_origin : ℕ → List (ℕ × List (ℕ × ℕ)) → List (ℕ × ℕ)
+ranges_of_origin origin origins = or_nothing (find nat_cmp origin origins)
 
 -- all ranges, each with its origin
 abbrev pub ranges_in : List (ℕ × List (ℕ × ℕ)) → List Range
@@ -32,8 +32,8 @@ pub record AreOrigins (origins : List (ℕ × List (ℕ × ℕ))) : Type 0 where
   pub apart : AllByRecursion (λ o. IsOrigin o.0 o.1) origins
 
 -- the acknowledgements above a gap, of the origins 1 to n
-unfoldable pub above_gaps : List (ℕ × List (ℕ × ℕ)) → ℕ → ℕ
-above_gaps origins n = sum_to (λ origin. above_a_gap (ranges_at origin origins)) n
+unfoldable pub origins_above_gaps : List (ℕ × List (ℕ × ℕ)) → ℕ → ℕ
+origins_above_gaps origins n = sum_to (λ origin. above_a_gap (ranges_of_origin origin origins)) n
 
 -- the ranges of each origin once others are in their place; none leaves them as they are
 abbrev pub origins_after : List (ℕ × List (ℕ × ℕ)) → Option (List (ℕ × List (ℕ × ℕ)))

@@ -11,7 +11,7 @@ ghost use Rattle.rep_model.specs.Ranges as range_list;
 ghost use Rattle.rep_shared.specs.Steps.{capped};
 ghost use Rattle.rep_log.specs.Kept.{of_acks};
 ghost use Rattle.rep_log.specs.Mail.{covers};
-ghost use Rattle.rep_log.specs.Origins.{origins_of, ranges_at, ranges_in, AreOrigins, above_gaps};
+ghost use Rattle.rep_log.specs.Origins.{origins_of, ranges_of_origin, ranges_in, AreOrigins, origins_above_gaps};
 
 use octets::NoMemory;
 use rep_ops::{ClientId, Op};
@@ -53,7 +53,7 @@ impl Acks {
 
     /// The acknowledged numbers of an origin.
     pub fn numbers(&self, origin: u8) -> &[(u64, u64)]
-        ensures numbers { result.now ≡ ranges_at origin self.now }
+        ensures numbers { result.now ≡ ranges_of_origin origin self.now }
         ensures origins { AreOrigins self.now }
     {
         match self.origins.get(&origin) {
@@ -113,7 +113,7 @@ impl Acks {
 
     /// How many acknowledgements stand above a number of their origin that is not acknowledged.
     pub fn exceptions(&self) -> u64
-        ensures { result ≡ capped (above_gaps self.now 255) }
+        ensures { result ≡ capped (origins_above_gaps self.now 255) }
     {
         let mut count = 0u64;
         for below in 0..self.last_origin() {
@@ -124,7 +124,7 @@ impl Acks {
 
     /// The greatest origin with acknowledgements, or 0.
     fn last_origin(&self) -> u8
-        ensures { (origin : ℕ) → result < origin → ranges_at origin self.now ≡ [] }
+        ensures { (origin : ℕ) → result < origin → ranges_of_origin origin self.now ≡ [] }
     {
         match self.origins.last_key_value() {
             Some((origin, _)) => *origin,

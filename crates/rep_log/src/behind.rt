@@ -27,7 +27,7 @@ fn has_room<T: Drop>(list: &Vec<T>, more: usize) -> bool
 
 /// Moves more after what is there: it stays where it is, if there is room for all, and goes to
 /// `room` else, which is empty.
-pub fn put_behind<T: Drop>(there: &mut Vec<T>, mut more: Vec<T>, mut room: Vec<T>)
+pub fn append_reusing<T: Drop>(there: &mut Vec<T>, mut more: Vec<T>, mut room: Vec<T>)
     requires empty { room.items ≡ [] }
     requires room { vec_len there.old + vec_len more ≤ vec_capacity room }
     ensures { there.new.items ≡ there.old.items ++ more.items }

@@ -6,7 +6,7 @@
 //! anew (`Log`). Per origin the acknowledged numbers are ranges (`Acks`), so that what was
 //! acknowledged in order is one range for ever.
 //!
-//! - `known`: session operations by their names (`Known`).
+//! - `named_ops`: session operations by their names (`Known`).
 //! - `log`: those of a client as a delta changes them, with the visible stamp, the prefix and the
 //!   session (`Log`).
 //! - `replay`: the session that operations without a gap make.
@@ -19,12 +19,12 @@
 
 mod acks;
 mod behind;
-mod known;
 mod log;
+mod named_ops;
 mod replay;
 
 pub use acks::Acks;
-pub use behind::put_behind;
-pub use known::{Known, NamedOp};
+pub use behind::append_reusing;
 pub use log::Log;
+pub use named_ops::{Known, NamedOp};
 pub use octets::NoMemory;

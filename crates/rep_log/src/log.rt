@@ -11,12 +11,12 @@ ghost use Rattle.rep_op.specs.declared.op.Stamp.{Stamp as OfStamp};
 ghost use Rattle.rep_op.specs.Orders.{operation_cmp};
 ghost use Rattle.sn_session.specs.declared.change.SessionOp.{SessionOp};
 ghost use Rattle.rep_model.specs.Keep as spec;
-ghost use Rattle.rep_model.specs.Views.{session_of};
+ghost use Rattle.rep_model.specs.Views.{session_made};
 ghost use Rattle.rep_shared.specs.Steps.{waits};
 ghost use Rattle.rep_log.specs.Logs.{history_in};
 ghost use Rattle.rep_log.specs.Logs.{IsKeptIn};
 
-use super::known::{Known, NamedOp, count_waiting, from_stamp};
+use super::named_ops::{Known, NamedOp, count_waiting, from_stamp};
 use super::replay::{find_among, go_on};
 use octets::NoMemory;
 use rep_model::ClientView;
@@ -81,7 +81,7 @@ fn goes_before(name: (Stamp, u8), other: (Stamp, u8)) -> bool
 }
 
 impl Log {
-    ghost use Rattle.rep_log.specs.Logs.{IsFolded, left_of, all_of, whole_of};
+    ghost use Rattle.rep_log.specs.Logs.{IsFolded, left_in_log, all_in_log, whole_of};
     ghost use Rattle.rep_log.specs.Logs.{whole_in};
 
     /// A log that leaves all that is there, as this view says it.
@@ -101,7 +101,7 @@ impl Log {
 
     /// Of the operations that were there, those that are not given up.
     fn left<'a>(&self, known: &'a Known) -> &'a [NamedOp]
-        ensures items { result.now ≡ left_of known.now self.now }
+        ensures items { result.now ≡ left_in_log known.now self.now }
         ensures ordered { T (is_sorted operation_cmp result.now) }
     {
         if self.anew { &[] } else { known.as_slice() }
@@ -110,7 +110,7 @@ impl Log {
     /// The operation of that name.
     pub fn get<'a>(&'a self, known: &'a Known, stamp: Stamp, counter: u8) -> Option<&'a SessionOp>
         ensures { option_copied result
-            ≡ find operation_cmp (stamp, counter) (all_of known.now self.now) }
+            ≡ find operation_cmp (stamp, counter) (all_in_log known.now self.now) }
     {
         find_among(self.left(known), self.more.as_slice(), stamp, counter)
     }
@@ -119,7 +119,7 @@ impl Log {
     pub fn count_parked(&self, known: &Known) -> Result<usize, NoMemory>
         ensures { IfOk result (λ count. count
             ≡ count_by (waits self.now.stamp self.now.prefix)
-            (keys_of (all_of known.now self.now))) }
+            (keys_of (all_in_log known.now self.now))) }
     {
         let first = count_waiting(self.left(known), self.stamp, self.prefix);
         let more = count_waiting(self.more.as_slice(), self.stamp, self.prefix);
@@ -145,10 +145,10 @@ impl Log {
     /// Sees to it that an operation of that name comes after all that was there and is not given
     /// up.
     fn make_way(&mut self, alloc: Global, known: &Known, name: (Stamp, u8)) -> Result<(), NoMemory>
-        requires { T (is_sorted operation_cmp (all_of known.now self.old)) }
-        ensures same { OnOk result (all_of known.now self.new ≡ all_of known.now self.old) }
+        requires { T (is_sorted operation_cmp (all_in_log known.now self.old)) }
+        ensures same { OnOk result (all_in_log known.now self.new ≡ all_in_log known.now self.old) }
         ensures behind { OnOk result (AllByRecursion (λ op. operation_cmp op.0 name ≡ Less)
-            (left_of known.now self.new)) }
+            (left_in_log known.now self.new)) }
         ensures seen { OnOk result ((self.new.stamp ≡ self.old.stamp)
             × (self.new.prefix ≡ self.old.prefix)
             × (self.new.session ≡ self.old.session)) }
@@ -168,10 +168,10 @@ impl Log {
         name: (Stamp, u8),
         change: SessionOp,
     ) -> Result<(), NoMemory>
-        requires ordered { T (is_sorted operation_cmp (all_of known.now self.old)) }
-        requires fresh { find operation_cmp name (all_of known.now self.old) ≡ None }
-        ensures entered { OnOk result (all_of known.now self.new
-            ≡ put operation_cmp name change (all_of known.now self.old)) }
+        requires ordered { T (is_sorted operation_cmp (all_in_log known.now self.old)) }
+        requires fresh { find operation_cmp name (all_in_log known.now self.old) ≡ None }
+        ensures entered { OnOk result (all_in_log known.now self.new
+            ≡ put operation_cmp name change (all_in_log known.now self.old)) }
         ensures seen { OnOk result ((self.new.stamp ≡ self.old.stamp)
             × (self.new.prefix ≡ self.old.prefix)
             × (self.new.session ≡ self.old.session)) }
@@ -187,9 +187,10 @@ impl Log {
 
     /// Forgets what is below the stamp. Of what was there, the rest alone is copied.
     fn forget_below(&mut self, alloc: Global, known: &Known, stamp: Stamp) -> Result<(), NoMemory>
-        requires { T (is_sorted operation_cmp (all_of known.now self.old)) }
-        ensures { OnOk result (all_of known.now self.new
-            ≡ filter (λ e. not (spec.is_below e.0.0 (Some stamp))) (all_of known.now self.old)) }
+        requires { T (is_sorted operation_cmp (all_in_log known.now self.old)) }
+        ensures { OnOk result (all_in_log known.now self.new
+            ≡ filter (λ e. not (spec.is_below e.0.0 (Some stamp)))
+            (all_in_log known.now self.old)) }
     {
         self.begin_anew(alloc, from_stamp(self.left(known), stamp))?;
         self.more.forget_below(stamp);
@@ -205,13 +206,14 @@ impl Log {
         change: SessionOp,
     ) -> Result<(), NoMemory>
         requires folded { IsFolded (whole_of known.now self.old) }
-        requires ordered { T (is_sorted operation_cmp (all_of known.now self.old)) }
-        requires fresh { find operation_cmp name (all_of known.now self.old) ≡ None }
+        requires ordered { T (is_sorted operation_cmp (all_in_log known.now self.old)) }
+        requires fresh { find operation_cmp name (all_in_log known.now self.old) ≡ None }
         ensures folded { OnOk result (IsFolded (whole_of known.now self.new)) }
-        ensures ordered { OnOk result (T (is_sorted operation_cmp (all_of known.now self.new))) }
+        ensures ordered { OnOk result
+            (T (is_sorted operation_cmp (all_in_log known.now self.new))) }
         ensures kept { OnOk result (IsKeptIn
-            ((name, change) ∷ all_of known.now self.old)
-            (all_of known.now self.new)
+            ((name, change) ∷ all_in_log known.now self.old)
+            (all_in_log known.now self.new)
             self.new.stamp) }
     {
         if is_below(name.0, self.stamp) {
@@ -242,14 +244,15 @@ impl Log {
 
     /// Makes a stamp the visible one, whose Take is there.
     fn take_up(&mut self, alloc: Global, known: &Known, stamp: Stamp) -> Result<(), NoMemory>
-        requires { T (is_sorted operation_cmp (all_of known.now self.old)) }
-        ensures kept { OnOk result (all_of known.now self.new
-            ≡ filter (λ e. not (spec.is_below e.0.0 (Some stamp))) (all_of known.now self.old)) }
+        requires { T (is_sorted operation_cmp (all_in_log known.now self.old)) }
+        ensures kept { OnOk result (all_in_log known.now self.new
+            ≡ filter (λ e. not (spec.is_below e.0.0 (Some stamp)))
+            (all_in_log known.now self.old)) }
         ensures stamp { OnOk result (self.new.stamp ≡ Some stamp) }
         ensures prefix { OnOk result (self.new.prefix
-            ≡ length (history_in (all_of known.now self.new) (Some stamp))) }
+            ≡ length (history_in (all_in_log known.now self.new) (Some stamp))) }
         ensures session { OnOk result (self.new.session
-            ≡ session_of (history_in (all_of known.now self.new) (Some stamp))) }
+            ≡ session_made (history_in (all_in_log known.now self.new) (Some stamp))) }
     {
         self.forget_below(alloc, known, stamp)?;
         let (prefix, session) = go_on(

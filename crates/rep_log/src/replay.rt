@@ -5,11 +5,11 @@ ghost use Rattle.std.specs.FinMap.{find, is_sorted};
 ghost use Rattle.std.specs.Option.{option_copied};
 ghost use Rattle.rep_op.specs.Orders.{operation_cmp};
 ghost use Rattle.rep_op.specs.declared.op.TheConstants.{MAX_OPERATIONS};
-ghost use Rattle.rep_model.specs.Views.{session_of};
+ghost use Rattle.rep_model.specs.Views.{session_made};
 ghost use Rattle.rep_log.specs.Logs.{history_in};
 ghost use Rattle.rep_shared.specs.inner.Replays.{IsReplayed};
 
-use super::known::{NamedOp, find_op};
+use super::named_ops::{NamedOp, find_op};
 use octets::NoMemory;
 use rep_ops::{MAX_OPERATIONS, Stamp};
 use rep_shared::changed;
@@ -49,7 +49,7 @@ pub(crate) fn go_on(
         (λ k. find operation_cmp (stamp, k) (first.now ++ more.now)) session from }
     ensures prefix { IfOk result (λ made. made.0
         ≡ length (history_in (first.now ++ more.now) (Some stamp))) }
-    ensures session { IfOk result (λ made. made.1 ≡ session_of
+    ensures session { IfOk result (λ made. made.1 ≡ session_made
         (history_in (first.now ++ more.now) (Some stamp))) }
 {
     let mut session = session;

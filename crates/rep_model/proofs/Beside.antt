@@ -19,7 +19,7 @@ use Rattle.rep_model.specs.declared.fault.Limit.{Limit}
 use Rattle.rep_model.specs.declared.fault.Limit.TheVariants.{Clients, Pending, Parked, Exceptions, Retained as OfRetained}
 use Rattle.rep_model.specs.declared.fault.TakeFault.{TakeFault}
 use Rattle.rep_model.specs.declared.fault.TakeFault.TheVariants.{Conflict, Full, Memory}
-use Rattle.rep_model.specs.Views.{greatest, take_stamp, names, visible, history_at, history, session_of, in_order, pending, view, named, clients, names_client, is_named}
+use Rattle.rep_model.specs.Views.{greatest, take_stamp, names, visible, history_at, history, session_made, in_order, pending, view, named, clients, names_client, is_named}
 use Rattle.rep_model.specs.Topics.{clocks, latest, retained, topic_in, topics, all_retained}
 use Rattle.rep_model.specs.Fresh.{largest, one_more, next_epoch, seq_of, next_seq, clock_in, next_clock}
 use Rattle.rep_model.specs.Keep.{is_below, is_outdone, keep, IsKeptOf}
@@ -166,7 +166,7 @@ module _ (A T : List Op) where
     view-front c = λ i. record {
       stamp = greatest stamp_cmp (filter_map take_stamp (names (operations-front c i)));
       prefix = length (history_at (λ (name : Stamp × ℕ). find operation_cmp name (operations-front c i)) (greatest stamp_cmp (filter_map take_stamp (names (operations-front c i)))));
-      session = session_of (history_at (λ (name : Stamp × ℕ). find operation_cmp name (operations-front c i)) (greatest stamp_cmp (filter_map take_stamp (names (operations-front c i)))));
+      session = session_made (history_at (λ (name : Stamp × ℕ). find operation_cmp name (operations-front c i)) (greatest stamp_cmp (filter_map take_stamp (names (operations-front c i)))));
       pending = map (λ e. e.1) (in_order put_cmp (filter (λ (e : (ℕ × ℕ) × Put). not (acknowledged-front c e.0 i)) (puts-front c i)));
     }
 
@@ -313,7 +313,7 @@ module _ (A T C R : List Op) (a : AreOfClients A) (t : AreOfTopics T) (c : AreOf
   view_both x = λ i. record {
     stamp = greatest stamp_cmp (filter_map take_stamp (names (operations_both x i)));
     prefix = length (history_at (λ (name : Stamp × ℕ). find operation_cmp name (operations_both x i)) (greatest stamp_cmp (filter_map take_stamp (names (operations_both x i)))));
-    session = session_of (history_at (λ (name : Stamp × ℕ). find operation_cmp name (operations_both x i)) (greatest stamp_cmp (filter_map take_stamp (names (operations_both x i)))));
+    session = session_made (history_at (λ (name : Stamp × ℕ). find operation_cmp name (operations_both x i)) (greatest stamp_cmp (filter_map take_stamp (names (operations_both x i)))));
     pending = map (λ e. e.1) (in_order put_cmp (filter (λ (e : (ℕ × ℕ) × Put). not (acknowledged_both x e.0 i)) (puts_both x i)));
   }
 

@@ -10,7 +10,7 @@ use Rattle.rep_op.specs.declared.op.Op.{Op}
 use Rattle.rep_op.specs.declared.op.Retained.{Retained}
 use Rattle.rep_op.specs.declared.op.Op.TheVariants.{Session as OfSession, Put as OfPut, Ack, Retain as OfRetain}
 use Rattle.rep_op.specs.Orders.{operation_cmp, put_cmp, clock_of, clock_cmp}
-use Rattle.rep_op.specs.Sets.{same_client, operation_of, operation_at, put_of, put_at, acknowledges, is_acknowledged, same_topic, retain_of, retain_at, Stands, IsConsistent, Within, Same}
+use Rattle.rep_op.specs.Sets.{same_client, operation_of, operation_at, put_of, put_at, acknowledges, is_acknowledged, same_topic, retain_of, retain_at, HasOperation, IsConsistent, Within, Same}
 use Rattle.rep_model.specs.Views.{pending_at, view}
 use Rattle.rep_model.specs.Keep.{keep, IsKeptOf, CountsAs, Below}
 use Rattle.rep_model.proofs.Lookup.{or_else, is_entry_of, is_some-find_map, find-all}
@@ -125,7 +125,7 @@ four_parts true true false q e = absurd (true≢false (sym e))
 four_parts true true true q e = (refl, refl, refl, e)
 
 module _ (S : List Op) (c : List ℕ) where
-  standing_operation : (op : Op) → Stands S op → IfSome (operation_of c op) (λ e. operation_at c S e.0 ≡ Some e.1)
+  standing_operation : (op : Op) → HasOperation S op → IfSome (operation_of c op) (λ e. operation_at c S e.0 ≡ Some e.1)
   standing_operation (OfSession d stamp counter change) h =
       elim (same_client c d) as (λ b. same_client c d ≡ b → IfSome {T = (Stamp × ℕ) × SessionOp} (if b then Some ((stamp, counter), change) else None) (λ e. operation_at c S e.0 ≡ Some e.1)) [
         | true ↦ λ e. ap (λ x. operation_at x S (stamp, counter)) (same_client-true c d e) ∙ h
@@ -135,7 +135,7 @@ module _ (S : List Op) (c : List ℕ) where
   standing_operation (Ack d origin first last) h = tt
   standing_operation (OfRetain u kept) h = tt
 
-  standing_put : (op : Op) → Stands S op → IfSome (put_of c op) (λ e. put_at c S e.0 ≡ Some e.1)
+  standing_put : (op : Op) → HasOperation S op → IfSome (put_of c op) (λ e. put_at c S e.0 ≡ Some e.1)
   standing_put (OfSession d stamp counter change) h = tt
   standing_put (OfPut d put) h =
       elim (same_client c d) as (λ b. same_client c d ≡ b → IfSome {T = (ℕ × ℕ) × Put} (if b then Some ((put.seq, put.origin), put) else None) (λ e. put_at c S e.0 ≡ Some e.1)) [
@@ -145,7 +145,7 @@ module _ (S : List Op) (c : List ℕ) where
   standing_put (Ack d origin first last) h = tt
   standing_put (OfRetain u kept) h = tt
 
-  standing_retain : (op : Op) → Stands S op → IfSome (retain_of c op) (λ e. retain_at c S e.0 ≡ Some e.1)
+  standing_retain : (op : Op) → HasOperation S op → IfSome (retain_of c op) (λ e. retain_at c S e.0 ≡ Some e.1)
   standing_retain (OfSession d stamp counter change) h = tt
   standing_retain (OfPut d put) h = tt
   standing_retain (Ack d origin first last) h = tt
@@ -155,7 +155,7 @@ module _ (S : List Op) (c : List ℕ) where
         | false ↦ λ _. tt
       ] refl
 
-  standing_acknowledgement : (name : ℕ × ℕ) (op : Op) → acknowledges c name op ≡ true → Stands S op → is_acknowledged c S name ≡ true
+  standing_acknowledgement : (name : ℕ × ℕ) (op : Op) → acknowledges c name op ≡ true → HasOperation S op → is_acknowledged c S name ≡ true
   standing_acknowledgement name (OfSession d stamp counter change) e h = absurd (true≢false (sym e))
   standing_acknowledgement name (OfPut d put) e h = absurd (true≢false (sym e))
   standing_acknowledgement name (OfRetain u kept) e h = absurd (true≢false (sym e))
@@ -165,7 +165,7 @@ module _ (S : List Op) (c : List ℕ) where
       ∙ ap (λ o. is_acknowledged d S (name.0, o)) (eqb-true name.1 origin w.1)
       ∙ h name.0 (leb-true first name.0 w.2) (leb-true name.0 last w.3)
 
-  standing_acknowledgements : (name : ℕ × ℕ) (T : List Op) → AllByRecursion (Stands S) T → is_acknowledged c T name ≡ true → is_acknowledged c S name ≡ true
+  standing_acknowledgements : (name : ℕ × ℕ) (T : List Op) → AllByRecursion (HasOperation S) T → is_acknowledged c T name ≡ true → is_acknowledged c S name ≡ true
   standing_acknowledgements name [] h e = absurd (true≢false (sym e))
   standing_acknowledgements name (op ∷ T) h e =
       elim (acknowledges c name op) as (λ b. acknowledges c name op ≡ b → (b || is_acknowledged c T name) ≡ true → is_acknowledged c S name ≡ true) [
@@ -178,16 +178,16 @@ found None p x h e = absurd (true≢false (sym (ap is_some e)))
 found (Some y) p x h e = h ∙ e
 
 -- a list of which each operation stands in S
-pub within-standing : (S T : List Op) → AllByRecursion (Stands S) T → Within T S
+pub within-standing : (S T : List Op) → AllByRecursion (HasOperation S) T → Within T S
 within-standing S T h = record {
-  operations_in = λ c name x e. found (operation_at c T name) (operation_at c S name) x (find-all operation_cmp operation_exact (operation_of c) (λ k y. operation_at c S k ≡ Some y) T (all-weaker (Stands S) _ (standing_operation S c) T h) name) e;
-  puts_in = λ c name x e. found (put_at c T name) (put_at c S name) x (find-all put_cmp put_exact (put_of c) (λ k y. put_at c S k ≡ Some y) T (all-weaker (Stands S) _ (standing_put S c) T h) name) e;
+  operations_in = λ c name x e. found (operation_at c T name) (operation_at c S name) x (find-all operation_cmp operation_exact (operation_of c) (λ k y. operation_at c S k ≡ Some y) T (all-weaker (HasOperation S) _ (standing_operation S c) T h) name) e;
+  puts_in = λ c name x e. found (put_at c T name) (put_at c S name) x (find-all put_cmp put_exact (put_of c) (λ k y. put_at c S k ≡ Some y) T (all-weaker (HasOperation S) _ (standing_put S c) T h) name) e;
   acknowledgements_in = λ c name e. standing_acknowledgements S c name T h e;
-  retains_in = λ t name x e. found (retain_at t T name) (retain_at t S name) x (find-all clock_cmp clock_exact (retain_of t) (λ k y. retain_at t S k ≡ Some y) T (all-weaker (Stands S) _ (standing_retain S t) T h) name) e;
+  retains_in = λ t name x e. found (retain_at t T name) (retain_at t S name) x (find-all clock_cmp clock_exact (retain_of t) (λ k y. retain_at t S k ≡ Some y) T (all-weaker (HasOperation S) _ (standing_retain S t) T h) name) e;
 }
 
 pub within-right : (A B : List Op) → IsConsistent (A ++ B) → Within B (A ++ B)
-within-right A B h = within-standing (A ++ B) B (all-right (Stands (A ++ B)) A B h)
+within-right A B h = within-standing (A ++ B) B (all-right (HasOperation (A ++ B)) A B h)
 
 swapped : {X : Type 0} (a b : Option X) → ((y : X) → b ≡ Some y → or_else a b ≡ Some y) → or_else a b ≡ or_else b a
 swapped None None f = refl
@@ -253,7 +253,7 @@ agree_test false false f g = refl
 -- lists of the same operations are the same set, in whatever order and however often each stands, where no name has two contents
 pub same-elements : (A B : List Op) → IsConsistent A → ((op : Op) → Contains A op → Contains B op) → ((op : Op) → Contains B op → Contains A op) → Same A B
 same-elements A B k f g =
-    let back = within-standing A B (all-moved (Stands A) B (λ op h. All-contains (Stands A) A op (All-from_recursion (Stands A) A k) (g op h))) in record {
+    let back = within-standing A B (all-moved (HasOperation A) B (λ op h. All-contains (HasOperation A) A op (All-from_recursion (HasOperation A) A k) (g op h))) in record {
       operations_same = λ c name. agree (operation_at c A name) (operation_at c B name)
           (λ e. is_some-find_map operation_cmp (operation_of c) name B ∙ moved (λ op. is_entry_of operation_cmp name (operation_of c op)) A B f (sym (is_some-find_map operation_cmp (operation_of c) name A) ∙ e))
           (λ y e. back.operations_in c name y e);

@@ -14,7 +14,7 @@ use Rattle.rep_op.specs.declared.op.Op.{Op}
 use Rattle.rep_op.specs.declared.op.Op.TheVariants.{Session as OfSession, Put as OfPut, Ack, Retain as OfRetain}
 use Rattle.rep_op.specs.Orders.{stamp_cmp, operation_cmp, put_cmp, client_cmp}
 use Rattle.rep_op.specs.Sets.{same_client, operation_of, operations, operation_at, put_of, put_at, acknowledges, is_acknowledged}
-use Rattle.rep_model.specs.Views.{greatest, take_stamp, names, visible, history_at, session_of, in_order, unacknowledged, view, unseen, named, clients, names_client, is_named}
+use Rattle.rep_model.specs.Views.{greatest, take_stamp, names, visible, history_at, session_made, in_order, unacknowledged, view, unseen, named, clients, names_client, is_named}
 use Rattle.rep_model.specs.Fresh.{largest, one_more, next_epoch, seq_of, next_seq}
 use Rattle.rep_model.specs.Keep.{is_below, CountsAs}
 use Rattle.rep_model.proofs.Lookup.{is_entry_of, is_some-find_map, list_any-weaker, list_any-picks, find-in_order, is_sorted-in_order}
@@ -253,7 +253,7 @@ module _ (c : List ℕ) where
     unnamed-unseen = λ i. record {
       stamp = no_visible i;
       prefix = length (history_at (operation_at c S) (no_visible i));
-      session = session_of (history_at (operation_at c S) (no_visible i));
+      session = session_made (history_at (operation_at c S) (no_visible i));
       pending = map (λ e. e.1) (in_order put_cmp (no_unacknowledged i));
     }
 

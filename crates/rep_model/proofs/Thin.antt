@@ -8,7 +8,7 @@ use Rattle.rep_op.specs.declared.op.Stamp.{Stamp}
 use Rattle.rep_op.specs.declared.op.Op.{Op}
 use Rattle.rep_op.specs.Orders.{stamp_cmp, put_cmp, clock_cmp}
 use Rattle.rep_op.specs.Sets.{operation_at, puts, put_at, is_acknowledged, retain_at, Same}
-use Rattle.rep_model.specs.Views.{visible, gapless, history_at, history, session_of, unacknowledged, pending_at, in_order, pending, view}
+use Rattle.rep_model.specs.Views.{visible, gapless, history_at, history, session_made, unacknowledged, pending_at, in_order, pending, view}
 use Rattle.rep_model.specs.Topics.{clocks, latest, retained}
 use Rattle.rep_model.specs.Keep.{is_below, is_outdone, keep, IsKeptOf}
 use Rattle.rep_model.proofs.Lookup.{or_else, find-in_order, is_sorted-in_order}
@@ -101,7 +101,7 @@ module _ (N W : List Op) (t : Thin N W) (c : List ℕ) where
       ] (t.retains_same c)
 
   pub view-thin : view c N ≡ view c W
-  view-thin = λ i. record { stamp = visible-thin i; prefix = length (history-thin i); session = session_of (history-thin i); pending = pending-thin i }
+  view-thin = λ i. record { stamp = visible-thin i; prefix = length (history-thin i); session = session_made (history-thin i); pending = pending-thin i }
 
 -- both keep the same
 pub same_kept : (N W : List Op) → Thin N W → Same (keep N) (keep W)

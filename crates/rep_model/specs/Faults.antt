@@ -4,7 +4,7 @@ use Rattle.rep_model.specs.declared.fault.TakeFault.{TakeFault}
 use Rattle.rep_model.specs.declared.fault.TakeFault.TheVariants.{Conflict, Full, Memory}
 
 -- the number by which reports name a fault
-abbrev pub number_of : TakeFault → ℕ
-number_of (Conflict about) = 1
-number_of (Full limit) = 2
-number_of Memory = 3
+abbrev pub take_fault_number : TakeFault → ℕ
+take_fault_number (Conflict about) = 1
+take_fault_number (Full limit) = 2
+take_fault_number Memory = 3

@@ -39,10 +39,8 @@ next_seq c gateway S = one_more (largest (seq_of c gateway) S)
 
 -- the clock under which the operation retains something of the topic, or 0
 abbrev pub clock_in : List ℕ → Op → ℕ
-clock_in t (OfSession c stamp counter change) = 0
-clock_in t (OfPut c put) = 0
-clock_in t (Ack c origin first last) = 0
 clock_in t (OfRetain u kept) = if same_topic t u then kept.clock else 0
+clock_in t op = 0
 
 -- the clock of what is retained next of the topic: one more than the greatest of any gateway; none
 -- after the last

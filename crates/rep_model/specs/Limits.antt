@@ -5,7 +5,7 @@ use Rattle.std.specs.List.{filter_map, list_any}
 use Rattle.sn_session.specs.declared.change.SessionOp.{SessionOp}
 use Rattle.rep_op.specs.declared.op.Stamp.{Stamp}
 use Rattle.rep_op.specs.declared.op.Op.{Op}
-use Rattle.rep_op.specs.declared.op.Op.TheVariants.{Session as OfSession, Put as OfPut, Ack, Retain as OfRetain}
+use Rattle.rep_op.specs.declared.op.Op.TheVariants.{Ack}
 use Rattle.rep_op.specs.Orders.{stamp_cmp, operation_cmp}
 use Rattle.rep_op.specs.Sets.{same_client, operations}
 use Rattle.rep_model.specs.declared.fault.TheConstants.{MOST_CLIENTS, MOST_PENDING, MOST_PARKED, MOST_EXCEPTIONS, MOST_RETAINED}
@@ -34,11 +34,9 @@ parked c S =
 
 -- a range of acknowledgements of the client and the origin
 abbrev pub range_of : List ℕ → ℕ → Op → Option (ℕ × ℕ)
-range_of c origin (OfSession d stamp counter change) = None
-range_of c origin (OfPut d put) = None
 range_of c origin (Ack d o first last) =
     if same_client c d && (origin == o) && nat_le first last then Some (first, last) else None
-range_of c origin (OfRetain topic kept) = None
+range_of c origin op = None
 
 -- the ranges with one more, in ascending order; ranges that overlap or touch are one
 abbrev pub with_range : ℕ × ℕ → List (ℕ × ℕ) → List (ℕ × ℕ)

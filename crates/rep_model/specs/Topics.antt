@@ -5,7 +5,7 @@ use Rattle.std.specs.Ordering.{is_lt}
 use Rattle.sn_topic.specs.Matching.{is_match}
 use Rattle.rep_op.specs.declared.op.Retained.{Retained}
 use Rattle.rep_op.specs.declared.op.Op.{Op}
-use Rattle.rep_op.specs.declared.op.Op.TheVariants.{Session as OfSession, Put as OfPut, Ack, Retain as OfRetain}
+use Rattle.rep_op.specs.declared.op.Op.TheVariants.{Retain as OfRetain}
 use Rattle.rep_op.specs.Orders.{topic_name_cmp, clock_of, clock_cmp}
 use Rattle.rep_op.specs.Sets.{same_topic, retains, retain_at}
 use Rattle.rep_model.specs.Views.{greatest, names, in_order}
@@ -31,10 +31,8 @@ later_of (Some a) (Some b) = if is_lt (clock_cmp (clock_of a) (clock_of b)) then
 
 -- the topic of which the operation retains something, as an entry under its own name
 abbrev pub topic_in : Op → Option (List ℕ × List ℕ)
-topic_in (OfSession c stamp counter change) = None
-topic_in (OfPut c put) = None
-topic_in (Ack c origin first last) = None
 topic_in (OfRetain t kept) = Some (t, t)
+topic_in op = None
 
 -- the topics of which something was ever retained, in ascending order, each once
 abbrev pub topics : List Op → List (List ℕ)
@@ -42,10 +40,8 @@ topics S = names (in_order topic_name_cmp (filter_map topic_in S))
 
 -- whether the operation retains something of the topic
 abbrev pub names_topic : List ℕ → Op → Bool
-names_topic t (OfSession c stamp counter change) = false
-names_topic t (OfPut c put) = false
-names_topic t (Ack c origin first last) = false
 names_topic t (OfRetain u kept) = same_topic t u
+names_topic t op = false
 
 -- whether something was ever retained of the topic
 abbrev pub has_topic : List ℕ → List Op → Bool

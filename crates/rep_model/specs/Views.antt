@@ -66,8 +66,8 @@ after_change None change = None
 after_change (Some session) change = Some (applied session change)
 
 -- the session that these operations make, one after the other, beginning with the Take
-abbrev pub session_of : List SessionOp → Option Session
-session_of done = fold after_change None done
+abbrev pub session_made : List SessionOp → Option Session
+session_made done = fold after_change None done
 
 -- the puts that are not acknowledged, under their names
 abbrev pub unacknowledged : List ℕ → List Op → List ((ℕ × ℕ) × Put)
@@ -93,7 +93,7 @@ view c S =
     record {
       stamp = visible c S;
       prefix = length (history c S);
-      session = session_of (history c S);
+      session = session_made (history c S);
       pending = pending c S;
     }
 

@@ -2,7 +2,7 @@
 
 ghost use Rattle.std.specs.Prelude.{◌≡◌};
 ghost use Rattle.rep_model.specs.declared.fault.TakeFault.TheVariants.{Memory};
-ghost use Rattle.rep_model.specs.Faults.{number_of};
+ghost use Rattle.rep_model.specs.Faults.{take_fault_number};
 
 use octets::NoMemory;
 use rep_op::Subject;
@@ -72,7 +72,7 @@ impl fmt::Display for TakeFault {
 impl TakeFault {
     /// The number by which reports name the fault, 1 to 3.
     pub fn number(&self) -> u8
-        ensures { result ≡ number_of self.now }
+        ensures { result ≡ take_fault_number self.now }
     {
         match self {
             TakeFault::Conflict { .. } => 1,

@@ -11,12 +11,12 @@ fault_of_topic topics.Memory = faults.Memory
 fault_of_topic fault = faults.Kind
 
 -- the number by which reports name a fault
-abbrev pub number_of : OpsFault → ℕ
-number_of faults.Twice = 1
-number_of faults.Limit = 2
-number_of faults.Memory = 3
-number_of faults.Truncated = 4
-number_of faults.Version = 5
-number_of faults.Kind = 6
-number_of faults.Order = 7
-number_of faults.Trailing = 8
+abbrev pub ops_fault_number : OpsFault → ℕ
+ops_fault_number faults.Twice = 1
+ops_fault_number faults.Limit = 2
+ops_fault_number faults.Memory = 3
+ops_fault_number faults.Truncated = 4
+ops_fault_number faults.Version = 5
+ops_fault_number faults.Kind = 6
+ops_fault_number faults.Order = 7
+ops_fault_number faults.Trailing = 8

@@ -47,10 +47,8 @@ clock_cmp a b = ordering_then (nat_cmp a.0 b.0) (nat_cmp a.1 b.1)
 
 -- whether it is an operation of a client, and not of a topic
 abbrev pub is_of_client : Op → Bool
-is_of_client (OfSession client stamp counter change) = true
-is_of_client (OfPut client put) = true
-is_of_client (Ack client origin first last) = true
 is_of_client (OfRetain topic kept) = false
+is_of_client op = true
 
 -- operations of clients
 abbrev pub AreOfClients : List Op → Type 0

@@ -12,7 +12,7 @@ use Rattle.sn_session.specs.declared.will.Will.{Will}
 use Rattle.sn_session.specs.declared.will.WillTopic.{WillTopic}
 use Rattle.sn_session.specs.declared.outbound.Outbound.{Outbound}
 use Rattle.sn_session.specs.declared.change.SessionOp.{SessionOp}
-use Rattle.sn_session.specs.declared.change.SessionOp.TheVariants.{Take, Presence as SetPresence, Register, Subscribe, Unsubscribe, WillTopic as SetWillTopic, WillMsg, Received, Released, Outbound as SetOutbound}
+use Rattle.sn_session.specs.declared.change.SessionOp.TheVariants.{Take, Register, Subscribe, WillTopic as SetWillTopic, WillMsg, Outbound as SetOutbound}
 
 -- a message has at most 4,096 octets
 abbrev pub is_message : List ℕ → Bool
@@ -53,12 +53,9 @@ is_session session =
 -- the values of a change are in range; its next message id, if it has one, is not 0
 abbrev pub is_change : SessionOp → Bool
 is_change (Take session) = is_session session
-is_change (SetPresence presence duration) = true
 is_change (Register id name known) = is_topic_id id
 is_change (Subscribe filter qos) = is_qos qos
-is_change (Unsubscribe filter) = true
 is_change (SetWillTopic asked) = is_will_topic asked
 is_change (WillMsg message) = is_message message
-is_change (Received id) = true
-is_change (Released id) = true
 is_change (SetOutbound exchange next_id) = nat_le 1 next_id && is_exchange exchange
+is_change change = true

@@ -61,8 +61,8 @@ abbrev pub will_topic_octets : WillTopic → List ℕ
 will_topic_octets asked = asked.qos ∷ flag_octet asked.retain ∷ text_octets asked.topic
 
 -- a will's quality of service, retain, topic and message
-abbrev pub will_octets : Will → List ℕ
-will_octets will =
+abbrev pub session_will_octets : Will → List ℕ
+session_will_octets will =
     (will.qos ∷ flag_octet will.retain ∷ text_octets will.topic) ++ text_octets will.message
 
 -- an exchange: origin, sequence number, message id, phase
@@ -79,7 +79,7 @@ session_octets session =
     ++ big_bytes 2 session.duration ++ big_bytes 2 session.next_id
     ++ table_octets topic_octets session.topics
     ++ table_octets subscription_octets session.subscriptions
-    ++ option_octets will_octets session.will ++ table_octets (big_bytes 2) session.received
+    ++ option_octets session_will_octets session.will ++ table_octets (big_bytes 2) session.received
     ++ option_octets exchange_octets session.outbound
 
 -- a change of a session: its tag and its fields

@@ -22,9 +22,7 @@ same_client c d = bytes_eq c d
 abbrev pub operation_of : List ℕ → Op → Option ((Stamp × ℕ) × SessionOp)
 operation_of c (OfSession d stamp counter change) =
     if same_client c d then Some ((stamp, counter), change) else None
-operation_of c (OfPut d put) = None
-operation_of c (Ack d origin first last) = None
-operation_of c (OfRetain topic kept) = None
+operation_of c op = None
 
 -- the session operations of the client, under their names
 abbrev pub operations : List ℕ → List Op → List ((Stamp × ℕ) × SessionOp)
@@ -36,10 +34,8 @@ operation_at c S name = find operation_cmp name (operations c S)
 
 -- a put for the client, under its name
 abbrev pub put_of : List ℕ → Op → Option ((ℕ × ℕ) × Put)
-put_of c (OfSession d stamp counter change) = None
 put_of c (OfPut d put) = if same_client c d then Some ((put.seq, put.origin), put) else None
-put_of c (Ack d origin first last) = None
-put_of c (OfRetain topic kept) = None
+put_of c op = None
 
 -- the puts for the client, under their names
 abbrev pub puts : List ℕ → List Op → List ((ℕ × ℕ) × Put)
@@ -51,11 +47,9 @@ put_at c S name = find put_cmp name (puts c S)
 
 -- whether the operation acknowledges the client's put of that name
 abbrev pub acknowledges : List ℕ → ℕ × ℕ → Op → Bool
-acknowledges c name (OfSession d stamp counter change) = false
-acknowledges c name (OfPut d put) = false
 acknowledges c name (Ack d origin first last) =
     same_client c d && (name.1 == origin) && nat_le first name.0 && nat_le name.0 last
-acknowledges c name (OfRetain topic kept) = false
+acknowledges c name op = false
 
 -- whether the set has the acknowledgement of the client's put of that name
 abbrev pub is_acknowledged : List ℕ → List Op → ℕ × ℕ → Bool
@@ -67,10 +61,8 @@ same_topic t u = bytes_eq t u
 
 -- what the operation retains of the topic, under its name
 abbrev pub retain_of : List ℕ → Op → Option ((ℕ × ℕ) × Retained)
-retain_of t (OfSession d stamp counter change) = None
-retain_of t (OfPut d put) = None
-retain_of t (Ack d origin first last) = None
 retain_of t (OfRetain u kept) = if same_topic t u then Some (clock_of kept, kept) else None
+retain_of t op = None
 
 -- all that was retained of the topic, under its names
 abbrev pub retains : List ℕ → List Op → List ((ℕ × ℕ) × Retained)
@@ -81,16 +73,16 @@ abbrev pub retain_at : List ℕ → List Op → ℕ × ℕ → Option Retained
 retain_at t S name = find clock_cmp name (retains t S)
 
 -- the operation stands in the set: what the set has under its name is the operation
-abbrev pub Stands : List Op → Op → Type 0
-Stands S (OfSession c stamp counter change) = operation_at c S (stamp, counter) ≡ Some change
-Stands S (OfPut c put) = put_at c S (put.seq, put.origin) ≡ Some put
-Stands S (Ack c origin first last) =
+abbrev pub HasOperation : List Op → Op → Type 0
+HasOperation S (OfSession c stamp counter change) = operation_at c S (stamp, counter) ≡ Some change
+HasOperation S (OfPut c put) = put_at c S (put.seq, put.origin) ≡ Some put
+HasOperation S (Ack c origin first last) =
     (seq : ℕ) → first ≤ seq → seq ≤ last → IsTrue (is_acknowledged c S (seq, origin))
-Stands S (OfRetain t kept) = retain_at t S (clock_of kept) ≡ Some kept
+HasOperation S (OfRetain t kept) = retain_at t S (clock_of kept) ≡ Some kept
 
 -- no name has two contents: each operation on the list is what the list has at its name
 abbrev pub IsConsistent : List Op → Type 0
-IsConsistent S = AllByRecursion (Stands S) S
+IsConsistent S = AllByRecursion (HasOperation S) S
 
 -- what the set has under the operation's name, if anything, is the operation
 abbrev pub Agrees : List Op → Op → Type 0

@@ -70,17 +70,17 @@ IsChangeValue (SetOutbound exchange next_id) = (next_id < 2 ^ 16) × IsExchangeV
 
 -- an operation of the program: clients and topics are such, gateways and counters have 8 bits,
 -- epochs, sequence numbers, clocks and moments 64
-abbrev pub IsValue : Op → Type 0
-IsValue (OfSession client stamp counter change) =
+abbrev pub IsOpValue : Op → Type 0
+IsOpValue (OfSession client stamp counter change) =
     IsClientId client × (stamp.epoch < 2 ^ 64) × (stamp.gateway < 2 ^ 8) × (counter < 2 ^ 8)
     × IsChangeValue change
-IsValue (OfPut client put) =
+IsOpValue (OfPut client put) =
     IsClientId client × (put.origin < 2 ^ 8) × (put.seq < 2 ^ 64) × IsName put.topic
     × (put.expires < 2 ^ 64)
-IsValue (Ack client origin first last) =
+IsOpValue (Ack client origin first last) =
     IsClientId client × (origin < 2 ^ 8) × (first < 2 ^ 64) × (last < 2 ^ 64)
-IsValue (OfRetain topic kept) = IsName topic × (kept.clock < 2 ^ 64) × (kept.gateway < 2 ^ 8)
+IsOpValue (OfRetain topic kept) = IsName topic × (kept.clock < 2 ^ 64) × (kept.gateway < 2 ^ 8)
 
 -- each operation is a value of the program
 abbrev pub AreValues : List Op → Type 0
-AreValues ops = AllByRecursion IsValue ops
+AreValues ops = AllByRecursion IsOpValue ops

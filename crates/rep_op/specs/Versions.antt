@@ -6,9 +6,9 @@ use Rattle.rep_op.specs.declared.version.Version.{Version}
 use Rattle.rep_op.specs.declared.version.Version.TheVariants.{One, Two}
 
 -- the octet that a text of the version begins with
-abbrev pub octet_of : Version → ℕ
-octet_of One = 1
-octet_of Two = 2
+abbrev pub version_octet : Version → ℕ
+version_octet One = 1
+version_octet Two = 2
 
 -- whether only version 2 can say it: a message that was retained or expires, or what is retained
 abbrev pub needs_two : Op → Bool

@@ -2,7 +2,7 @@
 
 ghost use Rattle.std.specs.Prelude.{◌≡◌};
 ghost use Rattle.rep_op.specs.declared.fault.OpsFault.TheVariants.{Memory};
-ghost use Rattle.rep_op.specs.Faults.{fault_of_topic, number_of};
+ghost use Rattle.rep_op.specs.Faults.{fault_of_topic, ops_fault_number};
 
 use octets::NoMemory;
 use sn_topic::TopicFault;
@@ -50,7 +50,7 @@ impl fmt::Display for OpsFault {
 impl OpsFault {
     /// The number by which reports name the fault, 1 to 8.
     pub fn number(&self) -> u8
-        ensures { result ≡ number_of self.now }
+        ensures { result ≡ ops_fault_number self.now }
     {
         match self {
             OpsFault::Twice => 1,

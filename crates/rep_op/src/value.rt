@@ -2,7 +2,7 @@
 
 ghost use Rattle.std.specs.Prelude.{◌<◌, ◌^◌};
 ghost use Rattle.std.specs.List.{AllByRecursion};
-ghost use Rattle.rep_op.specs.Values.{IsEntryValue, IsSubscriptionValue, IsWillValue, IsWillTopicValue, IsExchangeValue, IsSessionValue, IsChangeValue, IsValue};
+ghost use Rattle.rep_op.specs.Values.{IsEntryValue, IsSubscriptionValue, IsWillValue, IsWillTopicValue, IsExchangeValue, IsSessionValue, IsChangeValue, IsOpValue};
 
 use super::op::{Op, Put, Retained};
 use sn_session::{Outbound, Session, SessionOp, Will, WillTopic};
@@ -129,7 +129,7 @@ fn change_is_value(change: &SessionOp)
 
 /// What the types of an operation promise of its parts.
 pub fn is_value(op: &Op)
-    ensures { IsValue op.now }
+    ensures { IsOpValue op.now }
 {
     match op {
         Op::Session {

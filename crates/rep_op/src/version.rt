@@ -17,7 +17,7 @@ pub enum Version {
 impl Version {
     /// The octet that a text of the version begins with.
     pub fn octet(self) -> u8
-        ensures { result ≡ spec.octet_of self }
+        ensures { result ≡ spec.version_octet self }
     {
         match self {
             Version::One => 1,

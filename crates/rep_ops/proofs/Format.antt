@@ -18,12 +18,12 @@ use Rattle.rep_ops.specs.Making.{AreWellMade}
 use Rattle.rep_op.specs.Orders.{name_cmp}
 use Rattle.rep_op.specs.declared.version.Version.{Version}
 use Rattle.rep_op.specs.declared.version.Version.TheVariants.{One, Two}
-use Rattle.rep_op.specs.Versions.{octet_of, needs_two}
-use Rattle.rep_ops.specs.Reading.{AreOctets, is_apart, is_next, may_follow, values_at, text_at, needed_at, delta_at, reading, reading_one}
+use Rattle.rep_op.specs.Versions.{version_octet, needs_two}
+use Rattle.rep_ops.specs.Reading.{AreOctets, is_apart, is_next, may_follow, values_at, text_at, needed_at, delta_at, delta_reading, reading_one}
 use Rattle.rep_read.specs.Reading.{Reader, ◌>>=◌, octet_at, op_at}
 use Rattle.rep_op.specs.Sets.{same_client}
 use Rattle.rep_op.specs.Spelling.{op_octets}
-use Rattle.rep_ops.specs.Spelling.{spelled_in, version_of, spelling, max_octets}
+use Rattle.rep_ops.specs.Spelling.{spelled_in, version_of, delta_spelling, max_octets}
 use Rattle.rep_op.specs.Values.{AreValues}
 use Rattle.rep_ops.proofs.Listed.{FitsText, Order, values_law, whole_takes, whole_again}
 use Rattle.rep_ops.proofs.Whole.{takes, again, one, cut, behind}
@@ -104,8 +104,8 @@ ops_law version = values_law (op_at version) (op_octets version) (FitsOp version
 abbrev pub FitsFront : List Op → Type 0
 FitsFront d = FitsIn (version_of d) d
 
-took : (version : Version) (octet : ℕ) (bytes after : List ℕ) (x : List Op × List ℕ) → octet ≡ octet_of version → version_of x.0 ≡ version → bytes ≡ octet ∷ after
-    → Taken (values_text version) (FitsIn version) after x → Taken spelling FitsFront bytes x
+took : (version : Version) (octet : ℕ) (bytes after : List ℕ) (x : List Op × List ℕ) → octet ≡ version_octet version → version_of x.0 ≡ version → bytes ≡ octet ∷ after
+    → Taken (values_text version) (FitsIn version) after x → Taken delta_spelling FitsFront bytes x
 took version octet bytes after x is needs parts t =
     let whole : bytes ≡ spelled_in version x.0 ++ x.1 = parts ∙ (λ i. is i ∷ t.parts i) in
     record {
@@ -121,23 +121,23 @@ all_said (op ∷ rest) h = (h.0.said, all_said rest h.1)
 abbrev if_needed : List Op × List ℕ → Result (List Op × List ℕ) OpsFault
 if_needed x = cond (list_any needs_two x.0) (Ok x) (Err faults.Version)
 
-took_one : (octet : ℕ) (bytes after : List ℕ) (x : List Op × List ℕ) → octet ≡ 1 → bytes ≡ octet ∷ after → IsBytes after → ops_at One after ≡ Ok x → Taken spelling FitsFront bytes x
+took_one : (octet : ℕ) (bytes after : List ℕ) (x : List Op × List ℕ) → octet ≡ 1 → bytes ≡ octet ∷ after → IsBytes after → ops_at One after ≡ Ok x → Taken delta_spelling FitsFront bytes x
 took_one octet bytes after x is parts fits e =
     let t = (ops_law One).takes after x fits e in
     took One octet bytes after x is (said_by_one x.0 (all_said x.0 t.fits.fits)) parts t
 
-took_two : (octet : ℕ) (bytes after : List ℕ) (x : List Op × List ℕ) → octet ≡ 2 → bytes ≡ octet ∷ after → IsBytes after → needed_at after ≡ Ok x → Taken spelling FitsFront bytes x
+took_two : (octet : ℕ) (bytes after : List ℕ) (x : List Op × List ℕ) → octet ≡ 2 → bytes ≡ octet ∷ after → IsBytes after → needed_at after ≡ Ok x → Taken delta_spelling FitsFront bytes x
 unfolding needed_at
 took_two octet bytes after x is parts fits e =
     let b = bind_ok (ops_at Two after) if_needed x e in
     let g = guard_ok (list_any needs_two b.0.0) faults.Version b.0 x b.2 in
     let t = (ops_law Two).takes after b.0 fits b.1 in
-    subst (λ (y : List Op × List ℕ). Taken spelling FitsFront bytes y) g.1 (took Two octet bytes after b.0 is (is_two b.0.0 g.0) parts t)
+    subst (λ (y : List Op × List ℕ). Taken delta_spelling FitsFront bytes y) g.1 (took Two octet bytes after b.0 is (is_two b.0.0 g.0) parts t)
 
 abbrev by_version : ℕ × List ℕ → Result (List Op × List ℕ) OpsFault
 by_version x = cond (x.0 == 1) (ops_at One x.1) (cond (x.0 == 2) (needed_at x.1) (Err faults.Version))
 
-delta_takes : (bytes : List ℕ) (x : List Op × List ℕ) → IsBytes bytes → delta_at bytes ≡ Ok x → Taken spelling FitsFront bytes x
+delta_takes : (bytes : List ℕ) (x : List Op × List ℕ) → IsBytes bytes → delta_at bytes ≡ Ok x → Taken delta_spelling FitsFront bytes x
 unfolding delta_at
 delta_takes bytes x fits e =
     let b = bind_ok (octet_at bytes) by_version x e in
@@ -181,7 +181,7 @@ version_stable octet after more =
       ])
     ]
 
-delta_law : Law delta_at spelling FitsFront
+delta_law : Law delta_at delta_spelling FitsFront
 unfolding delta_at
 delta_law = record {
   takes = delta_takes;
@@ -203,35 +203,35 @@ fits_from : (version : Version) (ops : List Op) → AreWellMade ops → AreValue
 fits_from version [] m v s = tt
 fits_from version (op ∷ rest) m v s = (record { made = m.0; value = v.0; said = s.0 }, fits_from version rest m.1 v.1 s.1)
 
-few_ops : (d : List Op) → length (spelling d) ≤ max_octets → length d < 2 ^ 32
+few_ops : (d : List Op) → length (delta_spelling d) ≤ max_octets → length d < 2 ^ 32
 few_ops d size = let ops = length_ops (version_of d) d in omega arith
 
-pub fits_front : (d : List Op) → IsDelta d → AreValues d → length (spelling d) ≤ max_octets → FitsFront d
+pub fits_front : (d : List Op) → IsDelta d → AreValues d → length (delta_spelling d) ≤ max_octets → FitsFront d
 fits_front d h v size = record { few = few_ops d size; fits = fits_from (version_of d) d h.well_made v (version_says d); ascending = h.ascending }
 
 delta_from : (version : Version) (d : List Op) → FitsIn version d → IsDelta d
 delta_from version d h = record { well_made = fits_made version d h.fits; ascending = h.ascending }
 
-pub read_spelled : (bytes : List ℕ) (d : List Op) → AreOctets bytes → reading bytes ≡ Ok d → IsSpelled bytes d × AreValues d
+pub read_spelled : (bytes : List ℕ) (d : List Op) → AreOctets bytes → delta_reading bytes ≡ Ok d → IsSpelled bytes d × AreValues d
 read_spelled bytes d octets e =
-    let w = takes delta_at spelling FitsFront delta_law bytes d octets e in
+    let w = takes delta_at delta_spelling FitsFront delta_law bytes d octets e in
     (record { delta = delta_from (version_of d) d w.1; limit = w.2; spelled = w.0 }, fits_values (version_of d) d w.1.fits)
 
-pub read_again : (d : List Op) → IsDelta d → AreValues d → length (spelling d) ≤ max_octets → reading (spelling d) ≡ Ok d
-read_again d h v size = again delta_at spelling FitsFront delta_law d (fits_front d h v size) size
+pub read_again : (d : List Op) → IsDelta d → AreValues d → length (delta_spelling d) ≤ max_octets → delta_reading (delta_spelling d) ≡ Ok d
+read_again d h v size = again delta_at delta_spelling FitsFront delta_law d (fits_front d h v size) size
 
-pub one_front : (a b : List Op) (x y : List ℕ) → FitsFront a → FitsFront b → spelling a ++ x ≡ spelling b ++ y → (a ≡ b) × (x ≡ y)
-one_front = one delta_at spelling FitsFront delta_law
+pub one_front : (a b : List Op) (x y : List ℕ) → FitsFront a → FitsFront b → delta_spelling a ++ x ≡ delta_spelling b ++ y → (a ≡ b) × (x ≡ y)
+one_front = one delta_at delta_spelling FitsFront delta_law
 
-pub cut_off : (d : List Op) (front rest : List ℕ) → FitsFront d → length (spelling d) ≤ max_octets → spelling d ≡ front ++ rest → rest ≢ [] → reading front ≡ Err faults.Truncated
-cut_off = cut delta_at spelling FitsFront delta_law
+pub cut_off : (d : List Op) (front rest : List ℕ) → FitsFront d → length (delta_spelling d) ≤ max_octets → delta_spelling d ≡ front ++ rest → rest ≢ [] → delta_reading front ≡ Err faults.Truncated
+cut_off = cut delta_at delta_spelling FitsFront delta_law
 
-pub more_behind : (d : List Op) (rest : List ℕ) → FitsFront d → length (spelling d ++ rest) ≤ max_octets → rest ≢ [] → reading (spelling d ++ rest) ≡ Err faults.Trailing
-more_behind = behind delta_at spelling FitsFront delta_law
+pub more_behind : (d : List Op) (rest : List ℕ) → FitsFront d → length (delta_spelling d ++ rest) ≤ max_octets → rest ≢ [] → delta_reading (delta_spelling d ++ rest) ≡ Err faults.Trailing
+more_behind = behind delta_at delta_spelling FitsFront delta_law
 
 -- the reading of octets that spell a delta
-pub spelled_again : (bytes : List ℕ) (d : List Op) → AreValues d → IsSpelled bytes d → reading bytes ≡ Ok d
-spelled_again bytes d v s = ap reading s.spelled ∙ read_again d s.delta v s.limit
+pub spelled_again : (bytes : List ℕ) (d : List Op) → AreValues d → IsSpelled bytes d → delta_reading bytes ≡ Ok d
+spelled_again bytes d v s = ap delta_reading s.spelled ∙ read_again d s.delta v s.limit
 
 -- ---- deltas that need no version but 1, and what reads that one alone
 
@@ -248,7 +248,7 @@ one_spelled bytes d octets e =
       needs,
     )
 
-pub one_again : (d : List Op) → IsDelta d → AreValues d → length (spelling d) ≤ max_octets → version_of d ≡ One → reading_one (spelling d) ≡ Ok d
+pub one_again : (d : List Op) → IsDelta d → AreValues d → length (delta_spelling d) ≤ max_octets → version_of d ≡ One → reading_one (delta_spelling d) ≡ Ok d
 one_again d h v size needs =
     let fits = subst (λ (w : Version). FitsIn w d) needs (fits_front d h v size) in
     let short = subst (λ (w : Version). length (spelled_in w d) ≤ max_octets) needs size in

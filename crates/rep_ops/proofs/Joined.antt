@@ -16,7 +16,7 @@ use Rattle.rep_op.specs.declared.op.Op.{Op}
 use Rattle.rep_op.specs.declared.op.Retained.{Retained}
 use Rattle.rep_op.specs.declared.op.Op.TheVariants.{Session as OfSession, Put as OfPut, Ack, Retain as OfRetain}
 use Rattle.rep_ops.specs.Deltas.{IsDelta, IsAscending, IsBefore}
-use Rattle.rep_ops.specs.inner.Joining.{joins, united, united_from, joined}
+use Rattle.rep_ops.specs.inner.Joining.{joins, united, united_from, joined_ops}
 use Rattle.rep_ops.specs.Making.{AreWellMade}
 use Rattle.rep_op.specs.Orders.{name_cmp, operation_cmp, put_cmp, clock_cmp}
 use Rattle.rep_op.specs.Sets.{same_client, operation_at, put_at, acknowledges, is_acknowledged, same_topic, retain_at, Same}
@@ -39,7 +39,7 @@ united_made (Ack c r f l) (Ack d s g m) ha hb =
     let forward = x.forward in
     range_made c r f (max l m) (record { origin_there = x.origin_there; first_there = x.first_there; forward = omega arith })
 
-pub joined_made : (xs : List Op) → AreWellMade xs → AreWellMade (joined xs)
+pub joined_made : (xs : List Op) → AreWellMade xs → AreWellMade (joined_ops xs)
 joined_made xs h = all_joined (λ op. IsTrue (is_well_made op)) united_made xs h
 
 -- ---- the order
@@ -185,7 +185,7 @@ rising_ascending (a ∷ b ∷ rest) made up =
     ((first, all_past 1 a b rest made.1.0 first more.0), more)
 
 -- sorted and joined, they are a delta
-pub delta_joined : (xs : List Op) → AreWellMade xs → IsSortedByName xs → IsDelta (joined xs)
+pub delta_joined : (xs : List Op) → AreWellMade xs → IsSortedByName xs → IsDelta (joined_ops xs)
 delta_joined [] made sorted = record { well_made = tt; ascending = tt }
 delta_joined (a ∷ rest) made sorted = record { well_made = joined_made (a ∷ rest) made; ascending = ascending_from a rest made.0 made.1 (ordered_sorted a rest sorted) }
 
@@ -214,7 +214,7 @@ module _ {X : Type 0} (read : List Op → X) (behind : (a : Op) (S T : List Op) 
         | inr apart ↦ rw apart (behind a (united_from b rest) (b ∷ rest) (read_from b rest made.0 made.1 up.1))
       ]
 
-  read_joined : (xs : List Op) → AreWellMade xs → IsSortedByName xs → read (joined xs) ≡ read xs
+  read_joined : (xs : List Op) → AreWellMade xs → IsSortedByName xs → read (joined_ops xs) ≡ read xs
   read_joined [] made sorted = refl
   read_joined (a ∷ rest) made sorted = read_from a rest made.0 made.1 (ordered_sorted a rest sorted)
 
@@ -391,7 +391,7 @@ retain_front t name (OfRetain u k) S T e =
     ]
 
 -- joining changes nothing about the set
-pub same_joined : (xs : List Op) → AreWellMade xs → IsSortedByName xs → Same (joined xs) xs
+pub same_joined : (xs : List Op) → AreWellMade xs → IsSortedByName xs → Same (joined_ops xs) xs
 same_joined xs made sorted = record {
   operations_same = λ c name. read_joined (λ S. operation_at c S name) (operation_front c name) (operation_pair c name) xs made sorted;
   puts_same = λ c name. read_joined (λ S. put_at c S name) (put_front c name) (put_pair c name) xs made sorted;

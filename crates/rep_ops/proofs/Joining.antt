@@ -5,7 +5,7 @@ use Rattle.std.specs.List.{AllByRecursion}
 use Rattle.std.proofs.lemmas.Slice.Eq.{bytes_eq-Decides}
 use Rattle.rep_op.specs.declared.op.Op.{Op}
 use Rattle.rep_op.specs.declared.op.Op.TheVariants.{Ack}
-use Rattle.rep_ops.specs.inner.Joining.{joins, united, united_from, joined}
+use Rattle.rep_ops.specs.inner.Joining.{joins, united, united_from, joined_ops}
 
 -- what it means that two ranges join
 pub record Near (c d : List ℕ) (r s last start : ℕ) : Type 0 where
@@ -62,23 +62,23 @@ from_more a (b ∷ rest) op =
           ap (λ (xs : List Op). a ∷ xs) (from_more b rest op) ∙ sym (behind_cons a op (united_from b rest) some.0 some.1 some.2))
     ]
 
-joined_more : (S : List Op) (op : Op) → joined (S ++ op ∷ []) ≡ behind (joined S) op
+joined_more : (S : List Op) (op : Op) → joined_ops (S ++ op ∷ []) ≡ behind (joined_ops S) op
 joined_more [] op = refl
 joined_more (a ∷ rest) op = from_more a rest op
 
 -- nothing joined is nothing
-pub first_joined : (S out left : List Op) (n : ℕ) (op : Op) → n ≡ 0 → left ≡ take (n - 1) out → out ≡ left ++ [] → out ≡ joined S → left ++ op ∷ [] ≡ joined (S ++ op ∷ [])
+pub first_joined : (S out left : List Op) (n : ℕ) (op : Op) → n ≡ 0 → left ≡ take (n - 1) out → out ≡ left ++ [] → out ≡ joined_ops S → left ++ op ∷ [] ≡ joined_ops (S ++ op ∷ [])
 first_joined S out left n op none cut e same =
     let empty : left ≡ [] = cut ∙ ap (λ (m : ℕ). take (m - 1) out) none in
     ap (λ (xs : List Op). xs ++ op ∷ []) empty ∙ ap (λ (xs : List Op). behind xs op) (sym (e ∙ append-nil left ∙ empty) ∙ same) ∙ sym (joined_more S op)
 
-more_joined : (S front : List Op) (a op : Op) → front ++ a ∷ [] ≡ joined S → front ++ pair a op ≡ joined (S ++ op ∷ [])
+more_joined : (S front : List Op) (a op : Op) → front ++ a ∷ [] ≡ joined_ops S → front ++ pair a op ≡ joined_ops (S ++ op ∷ [])
 more_joined S front a op e = sym (behind_last front a op) ∙ ap (λ (xs : List Op). behind xs op) e ∙ sym (joined_more S op)
 
-pub one_joined : (S front : List Op) (a op : Op) → joins a op ≡ true → front ++ a ∷ [] ≡ joined S → front ++ united a op ∷ [] ≡ joined (S ++ op ∷ [])
+pub one_joined : (S front : List Op) (a op : Op) → joins a op ≡ true → front ++ a ∷ [] ≡ joined_ops S → front ++ united a op ∷ [] ≡ joined_ops (S ++ op ∷ [])
 one_joined S front a op one e = sym (ap (λ (b : Bool). front ++ cond b (united a op ∷ []) (a ∷ op ∷ [])) one) ∙ more_joined S front a op e
 
-pub both_joined : (S front : List Op) (a op : Op) → joins a op ≡ false → front ++ a ∷ [] ≡ joined S → (front ++ a ∷ []) ++ op ∷ [] ≡ joined (S ++ op ∷ [])
+pub both_joined : (S front : List Op) (a op : Op) → joins a op ≡ false → front ++ a ∷ [] ≡ joined_ops S → (front ++ a ∷ []) ++ op ∷ [] ≡ joined_ops (S ++ op ∷ [])
 both_joined S front a op apart e =
     append_assoc front (a ∷ []) (op ∷ []) ∙ sym (ap (λ (b : Bool). front ++ cond b (united a op ∷ []) (a ∷ op ∷ [])) apart) ∙ more_joined S front a op e
 
@@ -92,6 +92,6 @@ all_from P keeps a (b ∷ rest) pa h =
       | inr apart ↦ rw apart (pa, all_from P keeps b rest h.0 h.1)
     ]
 
-pub all_joined : (P : Op → Type 0) → ((a b : Op) → P a → P b → P (united a b)) → (xs : List Op) → AllByRecursion P xs → AllByRecursion P (joined xs)
+pub all_joined : (P : Op → Type 0) → ((a b : Op) → P a → P b → P (united a b)) → (xs : List Op) → AllByRecursion P xs → AllByRecursion P (joined_ops xs)
 all_joined P keeps [] h = tt
 all_joined P keeps (a ∷ rest) h = all_from P keeps a rest h.0 h.1

@@ -13,9 +13,9 @@ use Rattle.rep_op.specs.declared.fault.OpsFault.TheVariants.{Memory, Twice}
 use Rattle.rep_op.specs.declared.op.Op.{Op}
 use Rattle.rep_op.specs.Orders.{ShareName, name_cmp}
 use Rattle.rep_op.specs.declared.op.Op.TheVariants.{Session as OfSession, Put as OfPut, Ack, Retain as OfRetain}
-use Rattle.rep_ops.specs.inner.Joining.{united, joined}
-use Rattle.rep_ops.specs.Making.{AreWellMade, AreApart, IsDeltaOf}
-use Rattle.rep_op.specs.Values.{IsValue, AreValues}
+use Rattle.rep_ops.specs.inner.Joining.{united, joined_ops}
+use Rattle.rep_ops.specs.Making.{AreWellMade, HaveOwnNames, IsDeltaOf}
+use Rattle.rep_op.specs.Values.{IsOpValue, AreValues}
 use Rattle.rep_op.specs.WellMade.{is_well_made}
 use Rattle.rep_ops.proofs.Joining.{all_joined}
 use Rattle.rep_ops.proofs.Joined.{delta_joined, same_joined}
@@ -27,9 +27,9 @@ made_permutation xs ys p h =
     recursion_from_All (λ op. IsTrue (is_well_made op)) ys (All-permutation (λ op. IsTrue (is_well_made op)) xs ys p (All-from_recursion (λ op. IsTrue (is_well_made op)) xs h))
 
 values_permutation : (xs ys : List Op) → IsPermutation xs ys → AreValues xs → AreValues ys
-values_permutation xs ys p h = recursion_from_All IsValue ys (All-permutation IsValue xs ys p (All-from_recursion IsValue xs h))
+values_permutation xs ys p h = recursion_from_All IsOpValue ys (All-permutation IsOpValue xs ys p (All-from_recursion IsOpValue xs h))
 
-united_value : (a b : Op) → IsValue a → IsValue b → IsValue (united a b)
+united_value : (a b : Op) → IsOpValue a → IsOpValue b → IsOpValue (united a b)
 united_value (OfSession c s i o) b ha hb = ha
 united_value (OfPut c p) b ha hb = ha
 united_value (OfRetain t k) b ha hb = ha
@@ -45,24 +45,24 @@ pub record Sorted (xs ys : List Op) : Type 0 where
   pub sorted : IsSortedBy (λ a b. is_lt (name_cmp a b)) ys
   pub once : AllAdjacentBelow (λ a b. ¬ (ShareName a b)) ys (length ys)
 
-pub sorted_apart : (xs ys : List Op) → Sorted xs ys → AreApart xs
+pub sorted_apart : (xs ys : List Op) → Sorted xs ys → HaveOwnNames xs
 sorted_apart xs ys s =
     let up = rising_from ys (made_permutation xs ys s.same s.made) s.sorted s.once in
     record { well_made = s.made; once = λ t. rising_apart 0 ys up (twice_permutation ys xs (IsPermutation-sym xs ys s.same) t) }
 
-pub sorted_delta : (xs ys : List Op) → Sorted xs ys → IsDeltaOf xs (joined ys)
+pub sorted_delta : (xs ys : List Op) → Sorted xs ys → IsDeltaOf xs (joined_ops ys)
 sorted_delta xs ys s =
     let made = made_permutation xs ys s.same s.made in
     let apart = sorted_apart xs ys s in
     record {
       delta = delta_joined ys made s.sorted;
-      same = Same-trans (joined ys) ys xs (same_joined ys made s.sorted) (Same-sym xs ys (same_permutation xs ys s.same apart.once));
+      same = Same-trans (joined_ops ys) ys xs (same_joined ys made s.sorted) (Same-sym xs ys (same_permutation xs ys s.same apart.once));
     }
 
-sorted_values : (xs ys : List Op) → Sorted xs ys → AreValues (joined ys)
-sorted_values xs ys s = all_joined IsValue united_value ys (values_permutation xs ys s.same s.values)
+sorted_values : (xs ys : List Op) → Sorted xs ys → AreValues (joined_ops ys)
+sorted_values xs ys s = all_joined IsOpValue united_value ys (values_permutation xs ys s.same s.values)
 
-pub joined_made : (xs ys out : List Op) → Sorted xs ys → out ≡ joined ys → AreApart xs × IsDeltaOf xs out × AreValues out
+pub joined_made : (xs ys out : List Op) → Sorted xs ys → out ≡ joined_ops ys → HaveOwnNames xs × IsDeltaOf xs out × AreValues out
 joined_made xs ys out s h = (sorted_apart xs ys s, subst (λ (d : List Op). IsDeltaOf xs d) (sym h) (sorted_delta xs ys s), subst AreValues (sym h) (sorted_values xs ys s))
 
 pub memory_alone : {T : Type 0} (r : Result T OpsFault) → IsErrAnd r (λ fault. fault ≡ Memory) → r ≡ Err Twice → ⊥

@@ -14,7 +14,7 @@ use Rattle.rep_op.specs.declared.version.Version.{Version}
 use Rattle.rep_op.specs.declared.version.Version.TheVariants.{One, Two}
 use Rattle.rep_op.specs.Versions.{needs_two}
 use Rattle.rep_op.specs.Spelling.{later_octets, op_octets}
-use Rattle.rep_ops.specs.Spelling.{spelled_in, version_of, spelling}
+use Rattle.rep_ops.specs.Spelling.{spelled_in, version_of, delta_spelling}
 use Rattle.rep_ops.proofs.Versions.{is_one, is_two}
 
 some_octet : (version : Version) (op : Op) → 1 ≤ length (op_octets version op)
@@ -104,14 +104,14 @@ most_octets (op ∷ rest) =
 
 -- ---- the octets of a delta
 
-pub spelled_two : (ops : List Op) → list_any needs_two ops ≡ true → length (spelling ops) ≡ 5 + octets_in Two ops
+pub spelled_two : (ops : List Op) → list_any needs_two ops ≡ true → length (delta_spelling ops) ≡ 5 + octets_in Two ops
 spelled_two ops e = subst (λ (v : Version). length (spelled_in v ops) ≡ 5 + octets_in Two ops) (sym (is_two ops e)) (spelled Two ops)
 
-pub spelled_one : (ops : List Op) → list_any needs_two ops ≡ false → length (spelling ops) ≡ 5 + octets_in One ops
+pub spelled_one : (ops : List Op) → list_any needs_two ops ≡ false → length (delta_spelling ops) ≡ 5 + octets_in One ops
 spelled_one ops e = subst (λ (v : Version). length (spelled_in v ops) ≡ 5 + octets_in One ops) (sym (is_one ops e)) (spelled One ops)
 
 -- whatever the version, there is no fewer than version 1 needs
-pub spelled_least : (ops : List Op) → 5 + octets_in One ops ≤ length (spelling ops)
+pub spelled_least : (ops : List Op) → 5 + octets_in One ops ≤ length (delta_spelling ops)
 spelled_least ops =
     elim (cases_Bool (list_any needs_two ops)) [
       | inl two ↦ let size = spelled_two ops two in let least = least_octets ops in omega (arith, size, least)
@@ -122,7 +122,7 @@ any_front : (a b : Bool) → a ≡ true → (a || b) ≡ true
 any_front a b e = rw e refl
 
 -- more operations have no fewer octets
-pub spelled_longer : (a b : List Op) → length (spelling a) ≤ length (spelling (a ++ b))
+pub spelled_longer : (a b : List Op) → length (delta_spelling a) ≤ length (delta_spelling (a ++ b))
 spelled_longer a b =
     elim (cases_Bool (list_any needs_two a)) [
       | inl two ↦

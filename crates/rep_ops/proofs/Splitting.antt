@@ -13,9 +13,9 @@ use Rattle.rep_op.specs.declared.version.Version.TheVariants.{One, Two}
 use Rattle.rep_op.specs.Versions.{needs_two}
 use Rattle.rep_ops.specs.declared.measure.Measure.{Measure}
 use Rattle.rep_ops.specs.inner.Measures.{IsMeasure}
-use Rattle.rep_ops.specs.Spelling.{spelling, IsWithinLimit}
-use Rattle.rep_ops.specs.Splitting.{all_of, IsPart, IsFull, AreFull, IsSplit}
-use Rattle.rep_op.specs.Values.{IsValue, AreValues}
+use Rattle.rep_ops.specs.Spelling.{delta_spelling, IsDeltaWithinLimit}
+use Rattle.rep_ops.specs.Splitting.{all_of, IsPart, PassesLimit, AreFull, IsSplit}
+use Rattle.rep_op.specs.Values.{IsOpValue, AreValues}
 use Rattle.rep_op.specs.WellMade.{is_well_made}
 use Rattle.rep_ops.proofs.Joined.{rising_ascending, ascending_rising}
 use Rattle.rep_ops.proofs.Rising.{Past, Rising}
@@ -54,12 +54,12 @@ delta_between xs ys zs d =
 
 -- ---- full parts
 
-full_more : (ds : List (List Op)) (d next : List Op) → AreFull (ds ++ d ∷ []) → IsFull d next → AreFull ((ds ++ d ∷ []) ++ next ∷ [])
+full_more : (ds : List (List Op)) (d next : List Op) → AreFull (ds ++ d ∷ []) → PassesLimit d next → AreFull ((ds ++ d ∷ []) ++ next ∷ [])
 full_more [] d next h full = (full, tt)
 full_more (x ∷ []) d next h full = (h.0, (full, tt))
 full_more (x ∷ y ∷ ds) d next h full = (h.0, full_more (y ∷ ds) d next h.1 full)
 
-longer_full : (x d : List Op) (op : Op) → IsFull x d → IsFull x (d ++ op ∷ [])
+longer_full : (x d : List Op) (op : Op) → PassesLimit x d → PassesLimit x (d ++ op ∷ [])
 longer_full x [] op h = absurd h
 longer_full x (o ∷ d) op h = h
 
@@ -106,14 +106,14 @@ more_measure m n ops op h e f g =
       needed = g ∙ ap (λ (b : Bool). b || needs_two op) h.needed ∙ sym (list_any-append needs_two ops (op ∷ []) ∙ any_more (list_any needs_two ops) (needs_two op));
     }
 
-pub measured_two : (m : Measure) (ops : List Op) → IsMeasure m ops → m.is_two ≡ true → m.two ≡ length (spelling ops)
+pub measured_two : (m : Measure) (ops : List Op) → IsMeasure m ops → m.is_two ≡ true → m.two ≡ length (delta_spelling ops)
 measured_two m ops h e =
     let size = spelled_two ops (sym h.needed ∙ e) in
     let two = spelled Two ops in
     let was = h.two in
     omega (arith, size, two, was)
 
-pub measured_one : (m : Measure) (ops : List Op) → IsMeasure m ops → m.is_two ≡ false → m.one ≡ length (spelling ops)
+pub measured_one : (m : Measure) (ops : List Op) → IsMeasure m ops → m.is_two ≡ false → m.one ≡ length (delta_spelling ops)
 measured_one m ops h e =
     let size = spelled_one ops (sym h.needed ∙ e) in
     let one = spelled One ops in
@@ -121,7 +121,7 @@ measured_one m ops h e =
     omega (arith, size, one, was)
 
 -- a delta has at least the octets of version 1, and version 2 has at most twice as many
-pub roomy : (m : Measure) (ops : List Op) → IsMeasure m ops → length (spelling ops) ≤ 8388608 → (m.one ≤ 16777216) × (m.two ≤ 16777216)
+pub roomy : (m : Measure) (ops : List Op) → IsMeasure m ops → length (delta_spelling ops) ≤ 8388608 → (m.one ≤ 16777216) × (m.two ≤ 16777216)
 roomy m ops h size =
     let least = spelled_least ops in
     let most = most_octets ops in
@@ -132,7 +132,7 @@ roomy m ops h size =
     (omega (arith, size, least, one, was_one), omega (arith, size, least, most, two, was_two))
 
 -- the delta of one operation is far below the limit
-pub alone_small : (none m : Measure) (op : Op) → IsMeasure none [] → IsMeasure m (op ∷ []) → m.one ≤ none.one + 150000 → m.two ≤ none.two + 150000 → length (spelling (op ∷ [])) ≤ 150005
+pub alone_small : (none m : Measure) (op : Op) → IsMeasure none [] → IsMeasure m (op ∷ []) → m.one ≤ none.one + 150000 → m.two ≤ none.two + 150000 → length (delta_spelling (op ∷ [])) ≤ 150005
 alone_small none m op h k one two =
     let first : none.one ≡ 5 = h.one in
     let second : none.two ≡ 5 = h.two in
@@ -150,7 +150,7 @@ pub record AreParts (ops : List Op) (ds : List (List Op)) (part rest : List Op) 
   pub full : AreFull (ds ++ part ∷ [])
   pub values : AreValues part
   pub measured : IsMeasure measure part
-  pub small : length (spelling part) ≤ 8388608
+  pub small : length (delta_spelling part) ≤ 8388608
 
 pub no_part : (ops rest : List Op) (none : Measure) → rest ≡ ops → IsMeasure none [] → AreParts ops [] [] rest none
 no_part ops rest none e h = record { whole = e; parts = tt; full = tt; values = tt; measured = h; small = omega arith }
@@ -163,19 +163,19 @@ next_made ops ds part rest measure op left d h e =
 
 -- what a delta promises of its operations
 abbrev pub IsMade : List Op → Type 0
-IsMade part = IsDelta part × IsWithinLimit part × AreValues part
+IsMade part = IsDelta part × IsDeltaWithinLimit part × AreValues part
 
 pub part_delta : (ops : List Op) (ds : List (List Op)) (part rest : List Op) (measure : Measure) → IsDelta ops → AreParts ops ds part rest measure → IsMade part
 part_delta ops ds part rest measure d h = (delta_between (all_of ds) part rest (subst IsDelta (sym h.whole) d), h.small, h.values)
 
-some_part : (part : List Op) (op : Op) → length (spelling (op ∷ [])) ≤ 150005 → 8388608 < length (spelling (part ++ op ∷ [])) → part ≢ []
+some_part : (part : List Op) (op : Op) → length (delta_spelling (op ∷ [])) ≤ 150005 → 8388608 < length (delta_spelling (part ++ op ∷ [])) → part ≢ []
 some_part part op few full e =
-    let alone : 8388608 < length (spelling (op ∷ [])) = subst (λ (d : List Op). 8388608 < length (spelling (d ++ op ∷ []))) e full in
+    let alone : 8388608 < length (delta_spelling (op ∷ [])) = subst (λ (d : List Op). 8388608 < length (delta_spelling (d ++ op ∷ []))) e full in
     omega (arith, alone, few)
 
 -- the operation begins a part
 pub next_part : (ops : List Op) (ds : List (List Op)) (part rest : List Op) (measure : Measure) (op : Op) (left : List Op) (alone : Measure) → AreParts ops ds part rest measure → rest ≡ op ∷ left
-    → 8388608 < length (spelling (part ++ op ∷ [])) → IsMeasure alone (op ∷ []) → length (spelling (op ∷ [])) ≤ 150005 → IsValue op → AreParts ops (ds ++ part ∷ []) (op ∷ []) left alone
+    → 8388608 < length (delta_spelling (part ++ op ∷ [])) → IsMeasure alone (op ∷ []) → length (delta_spelling (op ∷ [])) ≤ 150005 → IsOpValue op → AreParts ops (ds ++ part ∷ []) (op ∷ []) left alone
 next_part ops ds part rest measure op left alone h e full measured few value =
     record {
       whole = ap (λ (xs : List Op). xs ++ (op ∷ left)) (all_of_more ds part) ∙ append_assoc (all_of ds) part (op ∷ left) ∙ ap (λ (xs : List Op). all_of ds ++ (part ++ xs)) (sym e) ∙ h.whole;
@@ -188,13 +188,13 @@ next_part ops ds part rest measure op left alone h e full measured few value =
 
 -- the operation goes into the part
 pub longer_part : (ops : List Op) (ds : List (List Op)) (part rest : List Op) (measure : Measure) (op : Op) (left : List Op) (longer : Measure) → AreParts ops ds part rest measure → rest ≡ op ∷ left
-    → length (spelling (part ++ op ∷ [])) ≤ 8388608 → IsMeasure longer (part ++ op ∷ []) → IsValue op → AreParts ops ds (part ++ op ∷ []) left longer
+    → length (delta_spelling (part ++ op ∷ [])) ≤ 8388608 → IsMeasure longer (part ++ op ∷ []) → IsOpValue op → AreParts ops ds (part ++ op ∷ []) left longer
 longer_part ops ds part rest measure op left longer h e fits measured value =
     record {
       whole = ap (λ (xs : List Op). all_of ds ++ xs) (append_assoc part (op ∷ []) left ∙ ap (λ (xs : List Op). part ++ xs) (sym e)) ∙ h.whole;
       parts = h.parts;
       full = full_longer ds part op h.full;
-      values = all_more IsValue part op h.values value;
+      values = all_more IsOpValue part op h.values value;
       measured = measured;
       small = fits;
     }

@@ -15,7 +15,7 @@ use Rattle.rep_op.specs.declared.op.Op.{Op}
 use Rattle.rep_op.specs.declared.op.Op.TheVariants.{Session as OfSession, Put as OfPut, Ack, Retain as OfRetain}
 use Rattle.rep_op.specs.declared.fault.OpsFault.{OpsFault}
 use Rattle.rep_ops.specs.Making.{IsDeltaOf, AreWellMade}
-use Rattle.rep_ops.specs.inner.Joining.{joined}
+use Rattle.rep_ops.specs.inner.Joining.{joined_ops}
 use Rattle.rep_op.specs.Orders.{name_cmp, operation_cmp, put_cmp, clock_cmp}
 use Rattle.rep_op.specs.Sets.{same_client, operation_at, put_at, acknowledges, is_acknowledged, same_topic, retain_at, Same}
 use Rattle.rep_op.proofs.Names.{name_total, same_client_cmp, then_equal}
@@ -120,15 +120,15 @@ same_stable xs ys p stable =
     }
 
 -- sorted and joined, operations are the delta of their set
-whole_delta : (xs ys : List Op) → AreWellMade xs → IsPermutation xs ys → IsStableBy lower xs ys → IsSortedByName ys → IsDeltaOf xs (joined ys)
+whole_delta : (xs ys : List Op) → AreWellMade xs → IsPermutation xs ys → IsStableBy lower xs ys → IsSortedByName ys → IsDeltaOf xs (joined_ops ys)
 whole_delta xs ys made p stable sorted =
     let there = made_permutation xs ys p made in
     record {
       delta = delta_joined ys there sorted;
-      same = Same-trans (joined ys) ys xs (same_joined ys there sorted) (same_stable xs ys p stable);
+      same = Same-trans (joined_ops ys) ys xs (same_joined ys there sorted) (same_stable xs ys p stable);
     }
 
 pub whole_made : (xs ys : List Op) → AreWellMade xs → IsPermutation xs ys → IsStableBy lower xs ys → IsSortedByName ys → {F : Type 0} (r : Result (Vec Op) F)
-    → IfOk r (λ out. out.items ≡ joined ys) → IfOk r (λ d. IsDeltaOf xs d.items)
+    → IfOk r (λ out. out.items ≡ joined_ops ys) → IfOk r (λ d. IsDeltaOf xs d.items)
 whole_made xs ys made p stable sorted (Ok out) h = subst (λ (d : List Op). IsDeltaOf xs d) (sym h) (whole_delta xs ys made p stable sorted)
 whole_made xs ys made p stable sorted (Err e) h = tt

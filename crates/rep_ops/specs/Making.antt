@@ -7,7 +7,7 @@ use Rattle.rep_op.specs.declared.op.Op.{Op}
 use Rattle.rep_ops.specs.Deltas.{IsDelta}
 use Rattle.rep_op.specs.Orders.{HasTwice}
 use Rattle.rep_op.specs.Sets.{Same}
-use Rattle.rep_ops.specs.Spelling.{spelling, max_octets}
+use Rattle.rep_ops.specs.Spelling.{delta_spelling, max_octets}
 use Rattle.rep_op.specs.WellMade.{is_well_made}
 
 -- each operation is well made: a delta may hold it
@@ -15,7 +15,7 @@ abbrev pub AreWellMade : List Op → Type 0
 AreWellMade ops = AllByRecursion (λ op. IsTrue (is_well_made op)) ops
 
 -- well made operations, no two of which have a name in common
-pub record AreApart (ops : List Op) : Type 0 where
+pub record HaveOwnNames (ops : List Op) : Type 0 where
   pub well_made : AreWellMade ops
   pub once : ¬ (HasTwice ops)
 
@@ -30,6 +30,6 @@ abbrev pub IsRefusal : List Op → OpsFault → Type 0
 IsRefusal ops faults.Kind = ¬ (AreWellMade ops)
 IsRefusal ops faults.Twice = AreWellMade ops × HasTwice ops
 IsRefusal ops faults.Limit =
-    AreApart ops × ((d : List Op) × IsDeltaOf ops d × (max_octets < length (spelling d)))
+    HaveOwnNames ops × ((d : List Op) × IsDeltaOf ops d × (max_octets < length (delta_spelling d)))
 IsRefusal ops faults.Memory = Unit {0}
 IsRefusal ops fault = ⊥

@@ -89,8 +89,8 @@ delta_at bytes =
     else (if version.0 == 2 then needed_at version.1 else Err faults.Version)
 
 -- what the octets say, or the first fault for which they are no delta
-abbrev pub reading : List ℕ → Result (List Op) OpsFault
-reading bytes = reading_by delta_at bytes
+abbrev pub delta_reading : List ℕ → Result (List Op) OpsFault
+delta_reading bytes = reading_by delta_at bytes
 
 -- what the octets say in version 1, which is all that an older gateway reads
 abbrev pub reading_one : List ℕ → Result (List Op) OpsFault

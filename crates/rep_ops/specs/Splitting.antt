@@ -3,7 +3,7 @@ use Rattle.std.specs.Prelude.{◌≡◌, ◌≢◌, ◌<◌, List, [], ◌∷◌
 use Rattle.std.specs.List.{AllByRecursion, flat_map}
 use Rattle.rep_op.specs.declared.op.Op.{Op}
 use Rattle.rep_ops.specs.Making.{IsDeltaOf}
-use Rattle.rep_ops.specs.Spelling.{spelling, max_octets, IsWithinLimit}
+use Rattle.rep_ops.specs.Spelling.{delta_spelling, max_octets, IsDeltaWithinLimit}
 
 -- the operations of the deltas, one delta after the other
 abbrev pub all_of : List (List Op) → List Op
@@ -12,18 +12,18 @@ all_of deltas = flat_map (λ d. d) deltas
 -- a part has operations, and at most as many as fit
 pub record IsPart (d : List Op) : Type 0 where
   pub some : d ≢ []
-  pub within : IsWithinLimit d
+  pub within : IsDeltaWithinLimit d
 
 -- with the first operation of the next part, the part would pass the limit
-abbrev pub IsFull : List Op → List Op → Type 0
-IsFull d [] = ⊥
-IsFull d (op ∷ rest) = max_octets < length (spelling (d ++ op ∷ []))
+abbrev pub PassesLimit : List Op → List Op → Type 0
+PassesLimit d [] = ⊥
+PassesLimit d (op ∷ rest) = max_octets < length (delta_spelling (d ++ op ∷ []))
 
 -- each part but the last is full
 abbrev pub AreFull : List (List Op) → Type 0
 AreFull [] = Unit {0}
 AreFull (d ∷ []) = Unit {0}
-AreFull (d ∷ next ∷ rest) = IsFull d next × AreFull (next ∷ rest)
+AreFull (d ∷ next ∷ rest) = PassesLimit d next × AreFull (next ∷ rest)
 
 -- a list of operations in parts, each but the last as full as it can be
 pub record IsSplit (ops : List Op) (deltas : List (List Op)) : Type 0 where

@@ -3,14 +3,14 @@
 ghost use Rattle.std.specs.Prelude.{◌≡◌, ◌≢◌, ◌⊎◌, ◌<◌, ◌≤◌, ◌==◌, ℕ, List, [], Ok, Err, ◌++◌, length, IfOk, IfErr, OnOk, OnErr, ◌↔◌};
 ghost use Rattle.rep_ops.specs.Deltas.{IsDelta};
 ghost use Rattle.rep_op.specs.Orders.{HasTwice, AreOfClients, AreOfTopics};
-ghost use Rattle.rep_ops.specs.inner.Joining.{joined};
-ghost use Rattle.rep_ops.specs.Making.{AreWellMade, AreApart, IsDeltaOf, IsRefusal};
+ghost use Rattle.rep_ops.specs.inner.Joining.{joined_ops};
+ghost use Rattle.rep_ops.specs.Making.{AreWellMade, HaveOwnNames, IsDeltaOf, IsRefusal};
 ghost use Rattle.rep_ops.specs.Formats.{IsSpelled};
-ghost use Rattle.rep_read.specs.Reading.{Gives};
-ghost use Rattle.rep_ops.specs.Reading.{reading, reading_one, AreOctets};
+ghost use Rattle.rep_read.specs.Reading.{ReadsAs};
+ghost use Rattle.rep_ops.specs.Reading.{delta_reading, reading_one, AreOctets};
 ghost use Rattle.rep_op.specs.Sets.{Same};
 ghost use Rattle.rep_op.specs.Values.{AreValues};
-ghost use Rattle.rep_ops.specs.Spelling.{version_of, spelling, max_octets, IsWithinLimit};
+ghost use Rattle.rep_ops.specs.Spelling.{version_of, delta_spelling, max_octets, IsDeltaWithinLimit};
 ghost use Rattle.rep_op.specs.declared.op.Op.{Op};
 
 use super::join::{has_twice, join_names, sort_by_name};
@@ -34,14 +34,14 @@ impl Model for Delta {
     ghost use Rattle.std.specs.Prelude.{List};
     ghost use Rattle.rep_op.specs.declared.op.Op.{Op};
     ghost use Rattle.rep_ops.specs.Deltas.{IsDelta};
-    ghost use Rattle.rep_ops.specs.Spelling.{IsWithinLimit};
+    ghost use Rattle.rep_ops.specs.Spelling.{IsDeltaWithinLimit};
     ghost use Rattle.rep_op.specs.Values.{AreValues};
 
     ghost Value = { List Op };
 
     ghost view = { λ d. d.ops.items };
 
-    ghost invariant = { λ d. IsDelta d.ops.items × IsWithinLimit d.ops.items
+    ghost invariant = { λ d. IsDelta d.ops.items × IsDeltaWithinLimit d.ops.items
         × AreValues d.ops.items };
 }
 
@@ -61,8 +61,8 @@ impl Delta {
     /// `Kind` for an operation that no delta may hold; else `Twice` for two that have a name in
     /// common; else `Limit` where the delta would be spelled in more than 8,388,608 octets.
     pub fn from_ops(alloc: Global, ops: Vec<Op>) -> Result<Delta, OpsFault>
-        ensures ok { IfOk result (λ d. AreApart ops.items × IsDeltaOf ops.items d
-            × IsWithinLimit d) }
+        ensures ok { IfOk result (λ d. HaveOwnNames ops.items × IsDeltaOf ops.items d
+            × IsDeltaWithinLimit d) }
         ensures fault { IfErr result (IsRefusal ops.items) }
         // The first two are told whatever memory there is.
         ensures kind { result ≡ Err OpsFault.Kind ↔ (¬ (AreWellMade ops.items)) }
@@ -77,7 +77,7 @@ impl Delta {
 
     /// Appends the one spelling of the delta. On an error the vector is as it was.
     pub fn append_to(&self, out: &mut Vec<u8>) -> Result<(), NoMemory>
-        ensures ok { OnOk result (out.new.items ≡ out.old.items ++ spelling self.now) }
+        ensures ok { OnOk result (out.new.items ≡ out.old.items ++ delta_spelling self.now) }
         ensures err { OnErr result (out.new.items ≡ out.old.items) }
     {
         let start = out.len();
@@ -92,7 +92,7 @@ impl Delta {
 
     /// The same, where want of memory is a fault of this crate.
     pub fn encode(&self, _alloc: Global, out: &mut Vec<u8>) -> Result<(), OpsFault>
-        ensures ok { OnOk result (out.new.items ≡ out.old.items ++ spelling self.now) }
+        ensures ok { OnOk result (out.new.items ≡ out.old.items ++ delta_spelling self.now) }
         ensures err { OnErr result (out.new.items ≡ out.old.items) }
         ensures memory { IfErr result (λ fault. fault ≡ OpsFault.Memory) }
     {
@@ -114,7 +114,7 @@ impl Delta {
         ensures only { (d : List Op) → AreValues d → IsSpelled bytes.now d → (result ≡ Ok d)
             ⊎ (result ≡ Err OpsFault.Memory) }
         // Which fault it is.
-        ensures exact { Gives (λ d. d) result (reading bytes.now) }
+        ensures exact { ReadsAs (λ d. d) result (delta_reading bytes.now) }
         // Too many octets are told whatever memory there is.
         ensures limit { max_octets < length bytes.now → result ≡ Err OpsFault.Limit }
     {
@@ -134,7 +134,7 @@ impl Delta {
             → version_of d ≡ Version.One
             → (result ≡ Ok d) ⊎ (result ≡ Err OpsFault.Memory) }
         // Which fault it is.
-        ensures exact { Gives (λ d. d) result (reading_one bytes.now) }
+        ensures exact { ReadsAs (λ d. d) result (reading_one bytes.now) }
         // Too many octets are told whatever memory there is.
         ensures limit { max_octets < length bytes.now → result ≡ Err OpsFault.Limit }
     {
@@ -147,7 +147,7 @@ impl Delta {
     pub fn ops(&self) -> &[Op]
         ensures ops { result.now ≡ self.now }
         ensures delta { IsDelta self.now }
-        ensures size { IsWithinLimit self.now }
+        ensures size { IsDeltaWithinLimit self.now }
         ensures values { AreValues self.now }
     {
         self.ops.as_slice()
@@ -191,7 +191,7 @@ impl Delta {
 
 /// The operations of the delta that is the set of these, however large.
 fn canonical(alloc: Global, ops: Vec<Op>) -> Result<Vec<Op>, OpsFault>
-    ensures ok { IfOk result (λ d. AreApart ops.items × IsDeltaOf ops.items d.items
+    ensures ok { IfOk result (λ d. HaveOwnNames ops.items × IsDeltaOf ops.items d.items
         × AreValues d.items) }
     ensures fault { IfErr result (λ fault. (fault ≡ OpsFault.Memory) ⊎ (fault ≡ OpsFault.Kind)
         ⊎ (fault ≡ OpsFault.Twice)) }
@@ -229,19 +229,19 @@ pub fn one_delta()
 /// The reading of octets and the spelling of deltas are one another's inverse.
 pub fn one_reading()
     // A delta is read off its spelling, so no octets spell two deltas.
-    ensures again { (d : List Op) → IsDelta d → AreValues d → IsWithinLimit d
-        → reading (spelling d) ≡ Ok d }
+    ensures again { (d : List Op) → IsDelta d → AreValues d → IsDeltaWithinLimit d
+        → delta_reading (delta_spelling d) ≡ Ok d }
     // What is read off octets is spelled so.
-    ensures spelled { (bytes : List ℕ) (d : List Op) → AreOctets bytes → reading bytes ≡ Ok d
+    ensures spelled { (bytes : List ℕ) (d : List Op) → AreOctets bytes → delta_reading bytes ≡ Ok d
         → IsSpelled bytes d × AreValues d }
 {}
 
 /// What reads version 1 alone reads the deltas that need no other version.
 pub fn one_older_reading()
     // A delta that needs no other version is read off its spelling.
-    ensures again { (d : List Op) → IsDelta d → AreValues d → IsWithinLimit d
+    ensures again { (d : List Op) → IsDelta d → AreValues d → IsDeltaWithinLimit d
         → version_of d ≡ Version.One
-        → reading_one (spelling d) ≡ Ok d }
+        → reading_one (delta_spelling d) ≡ Ok d }
     // What is read off octets is spelled so, and needs no other version.
     ensures spelled { (bytes : List ℕ) (d : List Op) → AreOctets bytes → reading_one bytes ≡ Ok d
         → IsSpelled bytes d × AreValues d × (version_of d ≡ Version.One) }
@@ -251,14 +251,16 @@ pub fn one_older_reading()
 pub fn no_prefix()
     // Where two spellings stand in front of the same octets they are the same, and so is what is
     // after them.
-    ensures free { (a b : List Op) (x y : List ℕ) → IsDelta a → AreValues a → IsWithinLimit a
-        → IsDelta b → AreValues b → IsWithinLimit b
-        → spelling a ++ x ≡ spelling b ++ y → (a ≡ b) × (x ≡ y) }
+    ensures free { (a b : List Op) (x y : List ℕ) → IsDelta a → AreValues a → IsDeltaWithinLimit a
+        → IsDelta b → AreValues b → IsDeltaWithinLimit b
+        → delta_spelling a ++ x ≡ delta_spelling b ++ y → (a ≡ b) × (x ≡ y) }
     // What is cut off anywhere is told by `Truncated`.
-    ensures cut { (d : List Op) (front rest : List ℕ) → IsDelta d → AreValues d → IsWithinLimit d
-        → spelling d ≡ front ++ rest → rest ≢ [] → reading front ≡ Err OpsFault.Truncated }
+    ensures cut { (d : List Op) (front rest : List ℕ) → IsDelta d → AreValues d
+        → IsDeltaWithinLimit d
+        → delta_spelling d ≡ front ++ rest → rest ≢ []
+        → delta_reading front ≡ Err OpsFault.Truncated }
     // What stands after is told by `Trailing`.
     ensures behind { (d : List Op) (rest : List ℕ) → IsDelta d → AreValues d → rest ≢ []
-        → length (spelling d ++ rest) ≤ max_octets
-        → reading (spelling d ++ rest) ≡ Err OpsFault.Trailing }
+        → length (delta_spelling d ++ rest) ≤ max_octets
+        → delta_reading (delta_spelling d ++ rest) ≡ Err OpsFault.Trailing }
 {}

@@ -112,8 +112,8 @@ fn put_two(out: &mut Vec<Op>, last: Op, op: Op) -> Result<(), NoMemory>
 
 /// Puts the last of those that are joined back, and an operation after it or joined with it.
 fn put_both(out: &mut Vec<Op>, last: Op, op: Op) -> Result<(), NoMemory>
-    ensures { (S : List Op) → out.old.items ++ last ∷ [] ≡ spec.joined S
-        → OnOk result (out.new.items ≡ spec.joined (S ++ op ∷ [])) }
+    ensures { (S : List Op) → out.old.items ++ last ∷ [] ≡ spec.joined_ops S
+        → OnOk result (out.new.items ≡ spec.joined_ops (S ++ op ∷ [])) }
 {
     if joins(&last, &op) {
         put_united(out, last, op)
@@ -124,8 +124,8 @@ fn put_both(out: &mut Vec<Op>, last: Op, op: Op) -> Result<(), NoMemory>
 
 /// Puts an operation after those that are joined, or joins it with the last of them.
 fn put_behind(out: &mut Vec<Op>, op: Op) -> Result<(), NoMemory>
-    ensures { (S : List Op) → out.old.items ≡ spec.joined S
-        → OnOk result (out.new.items ≡ spec.joined (S ++ op ∷ [])) }
+    ensures { (S : List Op) → out.old.items ≡ spec.joined_ops S
+        → OnOk result (out.new.items ≡ spec.joined_ops (S ++ op ∷ [])) }
 {
     match out.pop() {
         None => push(out, op),
@@ -136,7 +136,7 @@ fn put_behind(out: &mut Vec<Op>, op: Op) -> Result<(), NoMemory>
 /// Joins operations that are in the order of their names: of one name the first stays, and ranges
 /// that overlap or touch are one.
 pub fn join_names(alloc: Global, ops: Vec<Op>) -> Result<Vec<Op>, NoMemory>
-    ensures { IfOk result (λ out. out.items ≡ spec.joined ops.items) }
+    ensures { IfOk result (λ out. out.items ≡ spec.joined_ops ops.items) }
 {
     let mut out = Vec::with_capacity(alloc, ops.len())?;
     for op in ops {

@@ -5,7 +5,7 @@ ghost use Rattle.rep_op.specs.Versions as versions;
 ghost use Rattle.rep_op.specs.Spelling.{op_octets};
 ghost use Rattle.rep_op.specs.WellMade as spec;
 ghost use Rattle.rep_op.specs.declared.op.Op.{Op};
-ghost use Rattle.rep_ops.specs.Spelling.{spelling};
+ghost use Rattle.rep_ops.specs.Spelling.{delta_spelling};
 ghost use Rattle.rep_ops.specs.inner.Measures.{IsMeasure};
 
 use super::size::op_size;
@@ -54,7 +54,7 @@ impl Measure {
     pub fn of_one(op: &Op) -> Measure
         requires { IsTrue (spec.is_well_made op.now) }
         ensures measure { IsMeasure result (op.now ∷ []) }
-        ensures small { length (spelling (op.now ∷ [])) ≤ 150005 }
+        ensures small { length (delta_spelling (op.now ∷ [])) ≤ 150005 }
     {
         Measure::of_none().with_op(op)
     }
@@ -88,7 +88,7 @@ impl Measure {
 
     /// How many octets the delta of the operations is spelled in.
     pub fn octets(self) -> usize
-        ensures { (ops : List Op) → IsMeasure self ops → result ≡ length (spelling ops) }
+        ensures { (ops : List Op) → IsMeasure self ops → result ≡ length (delta_spelling ops) }
     {
         if self.is_two { self.two } else { self.one }
     }

@@ -2,7 +2,7 @@
 
 ghost use Rattle.std.specs.Prelude.{◌≡◌, ◌<◌, [], Err, length};
 ghost use Rattle.rep_ops.specs.Spelling.{max_octets};
-ghost use Rattle.rep_read.specs.Reading.{Gives, op_at};
+ghost use Rattle.rep_read.specs.Reading.{ReadsAs, op_at};
 ghost use Rattle.rep_ops.specs.Reading.{listed_at, values_at, text_at, needed_at, delta_at, reading_by};
 ghost use Rattle.rep_ops.specs.inner.Known.{known_at};
 ghost use Rattle.rep_ops.specs.Reading as spec;
@@ -58,7 +58,7 @@ fn read_ops(
     count: u32,
     bytes: &[u8],
 ) -> Result<(Vec<Op>, &[u8]), OpsFault>
-    ensures { Gives (λ x. (x.0.items, x.1.now)) result
+    ensures { ReadsAs (λ x. (x.0.items, x.1.now)) result
         (listed_at (op_at version) spec.may_follow count [] bytes.now) }
 {
     let mut ops = Vec::new(alloc);
@@ -78,7 +78,7 @@ fn read_ops(
 
 /// The count, and so many operations of a text of this version.
 fn read_values(alloc: Global, version: Version, bytes: &[u8]) -> Result<(Vec<Op>, &[u8]), OpsFault>
-    ensures { Gives (λ x. (x.0.items, x.1.now)) result
+    ensures { ReadsAs (λ x. (x.0.items, x.1.now)) result
         (values_at (op_at version) spec.may_follow bytes.now) }
 {
     let (count, rest) = read_four(bytes)?;
@@ -88,7 +88,7 @@ fn read_values(alloc: Global, version: Version, bytes: &[u8]) -> Result<(Vec<Op>
 /// The operations of a text of version 2, which one of them needs.
 #[tactic(auto, unfolding(crate::specs::Reading::needed_at))]
 fn read_needed(alloc: Global, bytes: &[u8]) -> Result<(Vec<Op>, &[u8]), OpsFault>
-    ensures { Gives (λ x. (x.0.items, x.1.now)) result (needed_at bytes.now) }
+    ensures { ReadsAs (λ x. (x.0.items, x.1.now)) result (needed_at bytes.now) }
 {
     let (ops, rest) = read_values(alloc, Version::Two, bytes)?;
     if !is_two_needed(ops.as_slice()) {
@@ -100,7 +100,7 @@ fn read_needed(alloc: Global, bytes: &[u8]) -> Result<(Vec<Op>, &[u8]), OpsFault
 /// The operations of a text, after its version.
 #[tactic(auto, unfolding(crate::specs::Reading::delta_at))]
 fn read_text(alloc: Global, bytes: &[u8]) -> Result<(Vec<Op>, &[u8]), OpsFault>
-    ensures { Gives (λ x. (x.0.items, x.1.now)) result (delta_at bytes.now) }
+    ensures { ReadsAs (λ x. (x.0.items, x.1.now)) result (delta_at bytes.now) }
 {
     let (version, rest) = read_octet(bytes)?;
     match version {
@@ -113,7 +113,7 @@ fn read_text(alloc: Global, bytes: &[u8]) -> Result<(Vec<Op>, &[u8]), OpsFault>
 /// The operations of a text of version 1, after its version.
 #[tactic(auto, unfolding(crate::specs::Reading::text_at))]
 fn read_text_one(alloc: Global, bytes: &[u8]) -> Result<(Vec<Op>, &[u8]), OpsFault>
-    ensures { Gives (λ x. (x.0.items, x.1.now)) result
+    ensures { ReadsAs (λ x. (x.0.items, x.1.now)) result
         (text_at (op_at Version.One) spec.may_follow bytes.now) }
 {
     let (version, rest) = read_octet(bytes)?;
@@ -126,7 +126,7 @@ fn read_text_one(alloc: Global, bytes: &[u8]) -> Result<(Vec<Op>, &[u8]), OpsFau
 /// The operations of a text, after its version, as what knows this version and those before it
 /// reads them.
 fn read_known(alloc: Global, known: Version, bytes: &[u8]) -> Result<(Vec<Op>, &[u8]), OpsFault>
-    ensures { Gives (λ x. (x.0.items, x.1.now)) result (known_at known bytes.now) }
+    ensures { ReadsAs (λ x. (x.0.items, x.1.now)) result (known_at known bytes.now) }
 {
     match known {
         Version::One => read_text_one(alloc, bytes),
@@ -138,7 +138,7 @@ fn read_known(alloc: Global, known: Version, bytes: &[u8]) -> Result<(Vec<Op>, &
 /// it reads them.
 #[tactic(auto, unfolding(crate::specs::Reading::whole_at))]
 pub fn read_delta(alloc: Global, known: Version, bytes: &[u8]) -> Result<Vec<Op>, OpsFault>
-    ensures reads { Gives (λ v. v.items) result (reading_by (known_at known) bytes.now) }
+    ensures reads { ReadsAs (λ v. v.items) result (reading_by (known_at known) bytes.now) }
     ensures limit { max_octets < length bytes.now → result ≡ Err OpsFault.Limit }
 {
     if bytes.len() > MAX_OCTETS {

@@ -3,7 +3,7 @@
 ghost use Rattle.std.specs.Prelude.{◌≡◌, ◌≤◌, length, IsTrue};
 ghost use Rattle.byteorder.specs.Endian.{big_bytes};
 ghost use Rattle.rep_op.specs.Ranges.{is_will, is_session, is_change};
-ghost use Rattle.rep_op.specs.Sessions.{table_octets, option_octets, topic_octets, subscription_octets, will_octets, will_topic_octets, exchange_octets, session_octets, change_octets};
+ghost use Rattle.rep_op.specs.Sessions.{table_octets, option_octets, topic_octets, subscription_octets, session_will_octets, will_topic_octets, exchange_octets, session_octets, change_octets};
 
 use sn_session::sn_tables::{Received, Subscriptions, Topics};
 use sn_session::{Outbound, Session, SessionOp, Will, WillTopic};
@@ -43,7 +43,7 @@ fn received_size(received: &Received) -> usize
 /// How many octets a will is spelled in.
 fn will_size(will: &Option<Will>) -> usize
     requires { IsTrue (is_will will.now) }
-    ensures size { result ≡ length (option_octets will_octets will.now) }
+    ensures size { result ≡ length (option_octets session_will_octets will.now) }
     ensures small { result ≤ 4359 }
 {
     match will {

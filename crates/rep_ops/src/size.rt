@@ -5,7 +5,7 @@ ghost use Rattle.rep_op.specs.Values.{AreValues};
 ghost use Rattle.rep_op.specs.WellMade as spec;
 ghost use Rattle.rep_op.specs.Spelling.{op_octets, put_octets, later_octets};
 ghost use Rattle.rep_ops.specs.Making.{AreWellMade};
-ghost use Rattle.rep_ops.specs.Spelling.{spelled_in, max_octets, IsWithinLimit};
+ghost use Rattle.rep_ops.specs.Spelling.{spelled_in, max_octets, IsDeltaWithinLimit};
 
 use super::session_size::change_size;
 use super::version::version_of;
@@ -80,7 +80,7 @@ fn is_within(version: Version, ops: &[Op]) -> bool
 /// Whether the delta of the operations is spelled in at most 8 MiB.
 pub fn is_within_limit(ops: &[Op]) -> bool
     requires { AreWellMade ops.now }
-    ensures { IsTrue result ↔ IsWithinLimit ops.now }
+    ensures { IsTrue result ↔ IsDeltaWithinLimit ops.now }
 {
     is_within(version_of(ops), ops)
 }

@@ -4,7 +4,7 @@ ghost use Rattle.std.specs.Prelude.{◌≡◌, [], ◌∷◌, ◌++◌, IfOk, On
 ghost use Rattle.rep_op.specs.Values.{AreValues};
 ghost use Rattle.rep_ops.specs.Deltas.{IsDelta};
 ghost use Rattle.rep_ops.specs.Making.{AreWellMade, IsDeltaOf};
-ghost use Rattle.rep_ops.specs.Spelling.{IsWithinLimit};
+ghost use Rattle.rep_ops.specs.Spelling.{IsDeltaWithinLimit};
 ghost use Rattle.rep_ops.specs.Splitting.{IsSplit, AreDeltasOf};
 
 use super::delta::Delta;
@@ -43,7 +43,7 @@ fn whole(alloc: Global, ops: Vec<Op>) -> Result<Vec<Op>, NoMemory>
 /// Makes a part a delta, after those that are there, and begins another part.
 fn close(alloc: Global, deltas: &mut Vec<Delta>, part: &mut Vec<Op>) -> Result<(), NoMemory>
     requires delta { IsDelta part.now.items }
-    requires limit { IsWithinLimit part.now.items }
+    requires limit { IsDeltaWithinLimit part.now.items }
     requires values { AreValues part.now.items }
     ensures deltas { OnOk result (deltas.new.items ≡ deltas.old.items ++ part.old.items ∷ []) }
     ensures part { OnOk result (part.new.items ≡ []) }

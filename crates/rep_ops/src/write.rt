@@ -7,7 +7,7 @@ ghost use Rattle.std.specs.List.{flat_map};
 ghost use Rattle.rep_op.specs.Spelling.{op_octets};
 ghost use Rattle.rep_write.specs.Writing.{Writes};
 ghost use Rattle.rep_ops.specs.Making.{AreWellMade};
-ghost use Rattle.rep_ops.specs.Spelling.{spelled_in, spelling, IsWithinLimit};
+ghost use Rattle.rep_ops.specs.Spelling.{spelled_in, delta_spelling, IsDeltaWithinLimit};
 
 use super::version::version_of;
 use rep_op::{Op, Version};
@@ -40,8 +40,8 @@ fn write_text(out: &mut Vec<u8>, version: Version, ops: &[Op]) -> Result<(), NoM
 /// Writes the delta of these operations.
 pub fn write_delta(out: &mut Vec<u8>, ops: &[Op]) -> Result<(), NoMemory>
     requires made { AreWellMade ops.now }
-    requires size { IsWithinLimit ops.now }
-    ensures { Writes (spelling ops.now) out.old.items out.new.items result }
+    requires size { IsDeltaWithinLimit ops.now }
+    ensures { Writes (delta_spelling ops.now) out.old.items out.new.items result }
 {
     write_text(out, version_of(ops), ops)
 }

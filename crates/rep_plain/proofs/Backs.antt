@@ -16,8 +16,8 @@ use Rattle.rep_model.proofs.Readers.{client_total, client_exact}
 use Rattle.rep_model.proofs.Joins.{all-both, all-weaker}
 use Rattle.rep_plain.specs.declared.entry.Entry.{Entry}
 use Rattle.rep_shared.specs.Steps.{capped}
-use Rattle.rep_shared.specs.Rows.{flat, own, or_nothing, moved, has_any, count_named, CanGoBack, AreSaved, IsOwn}
-use Rattle.rep_plain.specs.Tables.{rows_of, IsEntry, AreEntries, IsTable, HaveRoom}
+use Rattle.rep_shared.specs.Rows.{flat, own, or_nothing, rows_with, has_any, count_named, CanGoBack, AreSaved, IsOwn}
+use Rattle.rep_plain.specs.Tables.{rows_of, IsPlainEntry, AreEntries, IsPlainTable, HaveRoom}
 use Rattle.rep_plain.specs.inner.Tables.{AreMovable, IsSaving}
 use Rattle.rep_shared.proofs.Flat.{all_put, count_put, head_count, one_if}
 use Rattle.rep_shared.proofs.Found.{sorted_map}
@@ -40,7 +40,7 @@ none_of_rows c es absent = find_rows c es ∙ ap (option_map (λ (e : Entry). e.
 
 -- ---- an equal entry
 
-pub entry_again : (c : List ℕ) (e made : Entry) → made.ops.items ≡ e.ops.items → made.seen ≡ e.seen → made.parked ≡ e.parked → made.exceptions ≡ e.exceptions → IsEntry c e → IsEntry c made
+pub entry_again : (c : List ℕ) (e made : Entry) → made.ops.items ≡ e.ops.items → made.seen ≡ e.seen → made.parked ≡ e.parked → made.exceptions ≡ e.exceptions → IsPlainEntry c e → IsPlainEntry c made
 entry_again c e made ops seen waiting apart h = record {
   own = subst (IsOwn c) (sym ops) h.own;
   worked_out = record {
@@ -78,12 +78,12 @@ module _ (es new : Entries) (c : List ℕ) (e : Entry) (S : List Op) (is : new �
       let row : rows_of new ≡ put client_cmp c (own c rows) (rows_of es) = with_row ∙ sym (ap (λ (ops : List Op). put client_cmp c ops (rows_of es)) own_is) in
       record {
         can = λ can. subst (CanGoBack rows) (sym row) (save_back rows (rows_of es) c sorted there none can).0;
-        same = ap (moved rows) row ∙ moved_saved rows (rows_of es) c sorted there none;
+        same = ap (rows_with rows) row ∙ moved_saved rows (rows_of es) c sorted there none;
         found = λ q h. subst (λ (rs : Rows). IsSome (find client_cmp q rs)) (sym row) (room_put q c (own c rows) (rows_of es) h);
       }
 
   -- one more of them has operations, or as many as before
-  pub aside_more : (n m : ℕ) → IsTable es n → IsEntry c e → m ≡ n + one_if (has_any S) → count_named (put client_cmp c S (rows_of es)) ≤ MOST_CLIENTS → IsTable new m
+  pub aside_more : (n m : ℕ) → IsPlainTable es n → IsPlainEntry c e → m ≡ n + one_if (has_any S) → count_named (put client_cmp c S (rows_of es)) ≤ MOST_CLIENTS → IsPlainTable new m
   aside_more n m t entry count few =
       let counts = count_put c S (rows_of es) (rows_sorted es t.sorted) in
       let none : one_if (has_any (own c (rows_of es))) ≡ 0 = ap (λ (o : Option (List Op)). one_if (has_any (or_nothing o))) (none_of_rows c es absent) in
@@ -91,13 +91,13 @@ module _ (es new : Entries) (c : List ℕ) (e : Entry) (S : List Op) (is : new �
       let all : m ≡ count_named (put client_cmp c S (rows_of es)) = omega (arith, counts, none, count, before) in
       record {
         sorted = subst (λ (es : Entries). T (is_sorted client_cmp es)) (sym at) (is_sorted-put client_cmp client_total c e es t.sorted);
-        each = subst AreEntries (sym at) (all_put client_cmp client_exact IsEntry c e es entry t.each);
+        each = subst AreEntries (sym at) (all_put client_cmp client_exact IsPlainEntry c e es entry t.each);
         counted = all ∙ sym (ap count_named with_row);
         few = subst (λ (k : ℕ). k ≤ MOST_CLIENTS) (sym all) few;
       }
 
 -- there is room for a row more
-pub few_more : (rows : Rows) (xs : Entries) (n : ℕ) (c : List ℕ) (S : List Op) → T (is_sorted client_cmp rows) → IsTable xs n → CanGoBack rows (rows_of xs) → IsSome (find client_cmp c rows) → lookup (is_at (client_cmp c)) xs ≡ None → own c rows ≡ S → count_named (put client_cmp c S (rows_of xs)) ≤ MOST_CLIENTS
+pub few_more : (rows : Rows) (xs : Entries) (n : ℕ) (c : List ℕ) (S : List Op) → T (is_sorted client_cmp rows) → IsPlainTable xs n → CanGoBack rows (rows_of xs) → IsSome (find client_cmp c rows) → lookup (is_at (client_cmp c)) xs ≡ None → own c rows ≡ S → count_named (put client_cmp c S (rows_of xs)) ≤ MOST_CLIENTS
 few_more rows xs n c S sorted t can there absent own_is =
     let order = rows_sorted xs t.sorted in
     subst (λ (ops : List Op). count_named (put client_cmp c ops (rows_of xs)) ≤ MOST_CLIENTS) own_is
@@ -120,8 +120,8 @@ pub saving_can : (rows now old aside new : Rows) → rows ≡ now → old ≡ as
 saving_can rows now old aside new p q s can =
     subst (λ (rs : Rows). CanGoBack rs new) p (s.can (subst (CanGoBack rows) (sym q) (subst (λ (rs : Rows). CanGoBack rs aside) (sym p) can)))
 
-pub saving_same : (rows now old aside new : Rows) → rows ≡ now → old ≡ aside → IsSaving rows old new → flat (moved now new) ≡ flat (moved now aside)
-saving_same rows now old aside new p q s = sym (ap (λ (rs : Rows). flat (moved rs new)) p) ∙ ap flat s.same ∙ (λ i. flat (moved (p i) (q i)))
+pub saving_same : (rows now old aside new : Rows) → rows ≡ now → old ≡ aside → IsSaving rows old new → flat (rows_with now new) ≡ flat (rows_with now aside)
+saving_same rows now old aside new p q s = sym (ap (λ (rs : Rows). flat (rows_with rs new)) p) ∙ ap flat s.same ∙ (λ i. flat (rows_with (p i) (q i)))
 
 -- ---- the way back
 
@@ -132,11 +132,11 @@ module _ (es new all rest : Entries) (c : List ℕ) (e : Entry) (steps : all ≡
   row_at : rows_of new ≡ put client_cmp c e.ops.items (rows_of es)
   row_at = ap rows_of put_at ∙ rows_put c e es
 
-  pub back_first : T (is_sorted client_cmp (rows_of es)) → T (is_sorted client_cmp (rows_of all)) → moved (rows_of new) (rows_of rest) ≡ moved (rows_of es) (rows_of all)
+  pub back_first : T (is_sorted client_cmp (rows_of es)) → T (is_sorted client_cmp (rows_of all)) → rows_with (rows_of new) (rows_of rest) ≡ rows_with (rows_of es) (rows_of all)
   back_first h s =
-      ap (λ (rs : Rows). moved rs (rows_of rest)) row_at
+      ap (λ (rs : Rows). rows_with rs (rows_of rest)) row_at
       ∙ moved_first (rows_of es) (rows_of rest) c e.ops.items h (subst (λ (xs : Entries). T (is_sorted client_cmp (rows_of xs))) steps s)
-      ∙ sym (ap (λ (xs : Entries). moved (rows_of es) (rows_of xs)) steps)
+      ∙ sym (ap (λ (xs : Entries). rows_with (rows_of es) (rows_of xs)) steps)
 
   pub back_room : HaveRoom (rows_of es) (rows_of all) → HaveRoom (rows_of new) (rows_of rest)
   back_room h =
@@ -149,7 +149,7 @@ module _ (es new all rest : Entries) (c : List ℕ) (e : Entry) (steps : all ≡
       let each = subst AreEntries steps h.fresh_each in
       record {
         sorted = subst (λ (xs : Entries). T (is_sorted client_cmp xs)) (sym put_at) (is_sorted-put client_cmp client_total c e es h.sorted);
-        each = subst AreEntries (sym put_at) (all_put client_cmp client_exact IsEntry c e es each.0 h.each);
+        each = subst AreEntries (sym put_at) (all_put client_cmp client_exact IsPlainEntry c e es each.0 h.each);
         fresh_each = each.1;
       }
 

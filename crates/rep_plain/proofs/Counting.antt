@@ -16,9 +16,9 @@ use Rattle.rep_model.proofs.Named.{find_clients}
 use Rattle.rep_plain.specs.declared.entry.Entry.{Entry}
 use Rattle.rep_shared.specs.Steps.{capped}
 use Rattle.rep_plain.specs.Entries.{IsWorkedOut}
-use Rattle.rep_shared.specs.Rows.{flat, own, or_nothing, moved, has_any, count_named, IsOwn}
+use Rattle.rep_shared.specs.Rows.{flat, own, or_nothing, rows_with, has_any, count_named, IsOwn}
 use Rattle.rep_shared.specs.inner.Rows.{count_new, AreRows, of_client}
-use Rattle.rep_plain.specs.Tables.{rows_of, IsEntry, AreEntries}
+use Rattle.rep_plain.specs.Tables.{rows_of, IsPlainEntry, AreEntries}
 use Rattle.rep_shared.specs.inner.Tables.{passed_of}
 use Rattle.rep_plain.specs.inner.Tables.{passed_by, too_many_pending, too_many_parked, too_many_exceptions}
 use Rattle.std.specs.Option.{option_map}
@@ -72,7 +72,7 @@ module _ (P : List ℕ → Bool) (test : List ℕ × Entry → Bool) where
 
 -- ---- the first limit
 
-empty_own : (limit : ℕ) (m : List ℕ → List Op → ℕ) (c : List ℕ) → ((c : List ℕ) → nat_lt limit (m c []) ≡ false) → ((c : List ℕ) (e : Entry) → IsEntry c e → nat_lt limit (m c e.ops.items) ≡ false) → (es : List (List ℕ × Entry)) → AreEntries es → nat_lt limit (m c (own c (rows_of es))) ≡ false
+empty_own : (limit : ℕ) (m : List ℕ → List Op → ℕ) (c : List ℕ) → ((c : List ℕ) → nat_lt limit (m c []) ≡ false) → ((c : List ℕ) (e : Entry) → IsPlainEntry c e → nat_lt limit (m c e.ops.items) ≡ false) → (es : List (List ℕ × Entry)) → AreEntries es → nat_lt limit (m c (own c (rows_of es))) ≡ false
 empty_own limit m c none fits [] h = none c
 empty_own limit m c none fits (e ∷ es) h =
     elim (eq_by_cmp client_cmp c e.0) as (λ b. eq_by_cmp client_cmp c e.0 ≡ b → nat_lt limit (m c (or_nothing (cond b (Some e.1.ops.items) (find client_cmp c (rows_of es))))) ≡ false) [
@@ -97,7 +97,7 @@ pub record AreFresh (fresh : List (List ℕ × Entry)) : Type 0 where
 
 module _ (es fs : List (List ℕ × Entry)) (are : AreRows (rows_of es)) (each : AreEntries es) (h : AreFresh fs) where
   abbrev after : List (List ℕ × List Op)
-  after = moved (rows_of es) (rows_of fs)
+  after = rows_with (rows_of es) (rows_of fs)
 
   are_after : AreRows after
   are_after = rows_moved (rows_of es) (rows_of fs) are h.owned
@@ -119,7 +119,7 @@ module _ (es fs : List (List ℕ × Entry)) (are : AreRows (rows_of es)) (each :
   passed_one : (limit : ℕ) (m : List ℕ → List Op → ℕ) (test : List ℕ × Entry → Bool)
       → ((c : List ℕ) (S : List Op) → m c S ≡ m c (of_client c S))
       → ((c : List ℕ) → nat_lt limit (m c []) ≡ false)
-      → ((c : List ℕ) (e : Entry) → IsEntry c e → nat_lt limit (m c e.ops.items) ≡ false)
+      → ((c : List ℕ) (e : Entry) → IsPlainEntry c e → nat_lt limit (m c e.ops.items) ≡ false)
       → ((f : List ℕ × Entry) → IsWorkedOut f.0 f.1 → nat_lt limit (m f.0 f.1.ops.items) ≡ test f)
       → list_any (λ c. nat_lt limit (m c (flat after))) (clients (flat after)) ≡ list_any test fs
   passed_one limit m test reads none fits says =

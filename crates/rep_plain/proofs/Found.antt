@@ -12,8 +12,8 @@ use Rattle.rep_op.specs.Sets.{same_client}
 use Rattle.rep_plain.specs.declared.entry.Entry.{Entry}
 use Rattle.rep_shared.specs.Rows.{flat, own, or_nothing, IsOwn}
 use Rattle.rep_shared.specs.inner.Rows.{AreRows, of_client}
-use Rattle.rep_plain.specs.Tables.{rows_of, AreEntries, IsTable}
-use Rattle.rep_plain.specs.inner.Tables.{is_known, has_range}
+use Rattle.rep_plain.specs.Tables.{rows_of, AreEntries, IsPlainTable}
+use Rattle.rep_plain.specs.inner.Tables.{is_op_there, has_range}
 use Rattle.rep_shared.proofs.Maps.{lookup_is_find}
 use Rattle.rep_shared.proofs.Single.{tests_own}
 use Rattle.rep_shared.proofs.Flat.{of_flat}
@@ -34,7 +34,7 @@ owned_rows : (es : List (List ℕ × Entry)) → AreEntries es → AllByRecursio
 owned_rows [] h = tt
 owned_rows (e ∷ es) h = (h.0.own, owned_rows es h.1)
 
-pub table_rows : (es : List (List ℕ × Entry)) (n : ℕ) → IsTable es n → AreRows (rows_of es)
+pub table_rows : (es : List (List ℕ × Entry)) (n : ℕ) → IsPlainTable es n → AreRows (rows_of es)
 table_rows es n h = record { sorted = subst T (sym (sorted_map client_cmp (λ (e : Entry). e.ops.items) es)) h.sorted; owned = owned_rows es h.each }
 
 -- ---- one operation against the rows
@@ -50,7 +50,7 @@ module _ (c : List ℕ) (S : List Op) where
   has_range_own origin first last = tests_own c (has_range c origin first last) (other_has_range origin first last) S
 
 module _ (rows : List (List ℕ × List Op)) (are : AreRows rows) where
-  pub known_row : (op : Op) → is_known (own (client_of op) rows) op ≡ is_known (flat rows) op
+  pub known_row : (op : Op) → is_op_there (own (client_of op) rows) op ≡ is_op_there (flat rows) op
   known_row (OfSession c stamp counter change) = ap is_some (sym (operation_row rows are c (stamp, counter)))
   known_row (OfPut c p) = ap is_some (sym (put_row rows are c (p.seq, p.origin)))
   known_row (Ack c origin low high) = sym (has_range_own c (flat rows) origin low high ∙ ap (λ S. list_any (has_range c origin low high) S) (of_flat c rows are))

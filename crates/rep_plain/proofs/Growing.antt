@@ -14,7 +14,7 @@ use Rattle.rep_op.specs.Sets.{same_client}
 use Rattle.rep_model.proofs.Readers.{client_total}
 use Rattle.rep_shared.specs.Rows.{own, has_any}
 use Rattle.rep_shared.specs.inner.Rows.{of_client}
-use Rattle.rep_plain.specs.inner.Rows.{grown}
+use Rattle.rep_plain.specs.inner.Rows.{row_grown}
 use Rattle.rep_shared.proofs.Maps.{lookup_is_find}
 use Rattle.rep_shared.proofs.Found.{find_map}
 
@@ -37,7 +37,7 @@ same_self : (c : List ℕ) → same_client c c ≡ true
 same_self c = sym (is_eq-slice_cmp c c) ∙ ap is_eq (tied_itself client_total c)
 
 -- the client of the operation
-pub grown_there : (rows : List (List ℕ × List Op)) (D : List Op) (op : Op) (c : List ℕ) (ops : List Op) → c ≡ client_of op → ops ≡ unwrap_or (grown c rows D) (own c rows) → Some (ops ++ op ∷ []) ≡ grown c rows (D ++ op ∷ [])
+pub grown_there : (rows : List (List ℕ × List Op)) (D : List Op) (op : Op) (c : List ℕ) (ops : List Op) → c ≡ client_of op → ops ≡ unwrap_or (row_grown c rows D) (own c rows) → Some (ops ++ op ∷ []) ≡ row_grown c rows (D ++ op ∷ [])
 grown_there rows D op c ops is h =
     let more = behind c D op true (ap (same_client c) (sym is) ∙ same_self c) in
     let all : ops ++ op ∷ [] ≡ own c rows ++ (of_client c D ++ op ∷ []) = ap (λ ops. ops ++ op ∷ []) (h ∙ or_own (own c rows) (of_client c D)) ∙ append_assoc (own c rows) (of_client c D) (op ∷ []) in
@@ -46,7 +46,7 @@ grown_there rows D op c ops is h =
     ∙ ap (λ rest. if has_any rest then Some (own c rows ++ rest) else None) (sym more)
 
 -- another client
-pub grown_apart : (rows : List (List ℕ × List Op)) (D : List Op) (op : Op) (c : List ℕ) → same_client c (client_of op) ≡ false → grown c rows D ≡ grown c rows (D ++ op ∷ [])
+pub grown_apart : (rows : List (List ℕ × List Op)) (D : List Op) (op : Op) (c : List ℕ) → same_client c (client_of op) ≡ false → row_grown c rows D ≡ row_grown c rows (D ++ op ∷ [])
 grown_apart rows D op c e = ap (λ rest. if has_any rest then Some (own c rows ++ rest) else None) (sym (behind c D op false e ∙ append-nil (of_client c D)))
 
 pub not_same : (c client : List ℕ) (op : Op) → client ≡ client_of op → is_eq (client_cmp client c) ≡ false → same_client c (client_of op) ≡ false

@@ -19,7 +19,7 @@ use Rattle.rep_shared.specs.Rows.{flat, own, or_nothing, IsOwn, IsOwnOp}
 use Rattle.rep_plain.specs.inner.Rows.{kept_rows}
 use Rattle.rep_shared.specs.inner.Rows.{AreRows}
 use Rattle.rep_plain.specs.inner.Steps.{range_in, must_stay}
-use Rattle.rep_plain.specs.Tables.{IsEntry}
+use Rattle.rep_plain.specs.Tables.{IsPlainEntry}
 use Rattle.rep_shared.proofs.Counting.{all_found}
 use Rattle.rep_plain.proofs.Entering.{covers_acknowledged}
 use Rattle.rep_shared.proofs.Flat.{of_flat, named_client, all_filter}
@@ -41,7 +41,7 @@ stay_is_kept c S (OfPut d p) own = ap not (covers_acknowledged c S (p.seq, p.ori
 stay_is_kept c S (Ack d origin first last) own = refl
 stay_is_kept c S (OfRetain t k) own = none_some (c, c) own
 
-pub kept_of_entry : (c : List ℕ) (entry : Entry) (ranges : List Range) → IsEntry c entry → ranges ≡ filter_map (range_in c) entry.ops.items → filter (must_stay entry.seen.stamp ranges) entry.ops.items ≡ keep entry.ops.items
+pub kept_of_entry : (c : List ℕ) (entry : Entry) (ranges : List Range) → IsPlainEntry c entry → ranges ≡ filter_map (range_in c) entry.ops.items → filter (must_stay entry.seen.stamp ranges) entry.ops.items ≡ keep entry.ops.items
 kept_of_entry c entry ranges h e =
     let S = entry.ops.items in
     (λ i. filter (must_stay (h.worked_out.seen i).stamp (e i)) S)

@@ -18,8 +18,8 @@ use Rattle.rep_model.proofs.Readers.{client_total, client_exact}
 use Rattle.rep_model.proofs.Joins.{all-both, all-weaker}
 use Rattle.rep_plain.specs.declared.entry.Entry.{Entry}
 use Rattle.rep_plain.specs.Entries.{IsWorkedOut}
-use Rattle.rep_shared.specs.Rows.{flat, own, or_nothing, moved, has_any, count_named, CanGoBack, IsOwn}
-use Rattle.rep_plain.specs.Tables.{rows_of, IsEntry, AreEntries, IsTable, HaveRoom}
+use Rattle.rep_shared.specs.Rows.{flat, own, or_nothing, rows_with, has_any, count_named, CanGoBack, IsOwn}
+use Rattle.rep_plain.specs.Tables.{rows_of, IsPlainEntry, AreEntries, IsPlainTable, HaveRoom}
 use Rattle.rep_plain.specs.inner.Tables.{IsRoomier, AreMovable}
 use Rattle.rep_shared.proofs.Maps.{insert_is_put, lookup_is_find}
 use Rattle.rep_shared.proofs.Single.{view_own}
@@ -65,7 +65,7 @@ found_put q c ops rows h = subst (λ o. IsSome o) (sym (find-put client_cmp clie
 there_put : (c : List ℕ) (ops : List Op) (rows : List (List ℕ × List Op)) → find client_cmp c (put client_cmp c ops rows) ≡ Some ops
 there_put c ops rows = find-put client_cmp client_total c c ops rows ∙ ap (λ r. cond (is_eq r) (Some ops) (find client_cmp c rows)) (tied_itself client_total c)
 
-pub entry_empty : (c : List ℕ) (e : Entry) → e.ops.items ≡ [] → IsWorkedOut c e → length e.seen.pending ≡ 0 → e.parked ≡ 0 → e.exceptions ≡ 0 → IsEntry c e
+pub entry_empty : (c : List ℕ) (e : Entry) → e.ops.items ≡ [] → IsWorkedOut c e → length e.seen.pending ≡ 0 → e.parked ≡ 0 → e.exceptions ≡ 0 → IsPlainEntry c e
 entry_empty c e ops worked pending parked exceptions = record {
   own = subst (IsOwn c) (sym ops) tt;
   worked_out = worked;
@@ -75,7 +75,7 @@ entry_empty c e ops worked pending parked exceptions = record {
 }
 
 -- a place more
-pub roomier_place : (es new : List (List ℕ × Entry)) (c : List ℕ) (e : Entry) → new ≡ insert_entry client_cmp es c e → lookup (is_at (client_cmp c)) es ≡ None → e.ops.items ≡ [] → IsEntry c e → IsRoomier es new
+pub roomier_place : (es new : List (List ℕ × Entry)) (c : List ℕ) (e : Entry) → new ≡ insert_entry client_cmp es c e → lookup (is_at (client_cmp c)) es ≡ None → e.ops.items ≡ [] → IsPlainEntry c e → IsRoomier es new
 roomier_place es new c e is absent ops entry =
     let at : new ≡ put client_cmp c e es = is ∙ insert_is_put client_cmp c e es in
     let none : find client_cmp c (rows_of es) ≡ None = find_rows c es ∙ ap (option_map (λ (e : Entry). e.ops.items)) (sym (lookup_is_find client_cmp c es) ∙ absent) in
@@ -88,12 +88,12 @@ roomier_place es new c e is absent ops entry =
           let same : count_named (put client_cmp c [] (rows_of es)) ≡ count_named (rows_of es) = omega (arith, counts, zero) in
           record {
             sorted = subst (λ es. T (is_sorted client_cmp es)) (sym at) (is_sorted-put client_cmp client_total c e es t.sorted);
-            each = subst AreEntries (sym at) (all_put client_cmp client_exact IsEntry c e es entry t.each);
+            each = subst AreEntries (sym at) (all_put client_cmp client_exact IsPlainEntry c e es entry t.each);
             counted = t.counted ∙ sym (ap count_named rows ∙ same);
             few = t.few;
           };
       found = λ q h. subst (λ rows. IsSome (find client_cmp q rows)) (sym rows) (found_put q c [] (rows_of es) h);
-      back = λ count t aside can. subst (λ (rs : List (List ℕ × List Op)). CanGoBack rs aside × (flat (moved rs aside) ≡ flat (moved (rows_of es) aside))) (sym rows) (place_back (rows_of es) aside c (table_rows es count t).sorted none can);
+      back = λ count t aside can. subst (λ (rs : List (List ℕ × List Op)). CanGoBack rs aside × (flat (rows_with rs aside) ≡ flat (rows_with (rows_of es) aside))) (sym rows) (place_back (rows_of es) aside c (table_rows es count t).sorted none can);
     }
 
 pub place_there : (es new : List (List ℕ × Entry)) (c : List ℕ) (e : Entry) → new ≡ insert_entry client_cmp es c e → IsSome (find client_cmp c (rows_of new))
@@ -121,11 +121,11 @@ all_front P [] x h = (tt, h.0)
 all_front P (y ∷ xs) x h = let rest = all_front P xs x h.1 in ((h.0, rest.0), rest.1)
 
 -- the last of the fresh entries goes to its place
-pub move_last : (es new fs rest : List (List ℕ × Entry)) (c : List ℕ) (e : Entry) → fs ≡ rest ++ (c, e) ∷ [] → new ≡ insert_entry client_cmp es c e → moved (rows_of new) (rows_of rest) ≡ moved (rows_of es) (rows_of fs)
+pub move_last : (es new fs rest : List (List ℕ × Entry)) (c : List ℕ) (e : Entry) → fs ≡ rest ++ (c, e) ∷ [] → new ≡ insert_entry client_cmp es c e → rows_with (rows_of new) (rows_of rest) ≡ rows_with (rows_of es) (rows_of fs)
 move_last es new fs rest c e all is =
-    ap (λ es. moved (rows_of es) (rows_of rest)) (is ∙ insert_is_put client_cmp c e es)
-    ∙ ap (λ rows. moved rows (rows_of rest)) (rows_put c e es)
-    ∙ sym (ap (λ fs. moved (rows_of es) (rows_of fs)) all ∙ ap (moved (rows_of es)) (rows_last rest (c, e)) ∙ moved_last (rows_of es) (rows_of rest) (c, e.ops.items))
+    ap (λ es. rows_with (rows_of es) (rows_of rest)) (is ∙ insert_is_put client_cmp c e es)
+    ∙ ap (λ rows. rows_with rows (rows_of rest)) (rows_put c e es)
+    ∙ sym (ap (λ fs. rows_with (rows_of es) (rows_of fs)) all ∙ ap (rows_with (rows_of es)) (rows_last rest (c, e)) ∙ moved_last (rows_of es) (rows_of rest) (c, e.ops.items))
 
 pub room_left : (es new fs rest : List (List ℕ × Entry)) (c : List ℕ) (e : Entry) → fs ≡ rest ++ (c, e) ∷ [] → new ≡ insert_entry client_cmp es c e → HaveRoom (rows_of es) (rows_of fs) → HaveRoom (rows_of new) (rows_of rest)
 room_left es new fs rest c e all is h =
@@ -147,33 +147,33 @@ room_last es fs rest c e all h =
 pub movable_left : (es new fs rest : List (List ℕ × Entry)) (c : List ℕ) (e : Entry) → fs ≡ rest ++ (c, e) ∷ [] → new ≡ insert_entry client_cmp es c e → AreMovable es fs → AreMovable new rest
 movable_left es new fs rest c e all is h =
     let at : new ≡ put client_cmp c e es = is ∙ insert_is_put client_cmp c e es in
-    let front = all_front (λ (f : List ℕ × Entry). IsEntry f.0 f.1) rest (c, e) (subst AreEntries all h.fresh_each) in
+    let front = all_front (λ (f : List ℕ × Entry). IsPlainEntry f.0 f.1) rest (c, e) (subst AreEntries all h.fresh_each) in
     record {
       sorted = subst (λ es. T (is_sorted client_cmp es)) (sym at) (is_sorted-put client_cmp client_total c e es h.sorted);
-      each = subst AreEntries (sym at) (all_put client_cmp client_exact IsEntry c e es front.1 h.each);
+      each = subst AreEntries (sym at) (all_put client_cmp client_exact IsPlainEntry c e es front.1 h.each);
       fresh_each = front.0;
     }
 
 -- ---- answers
 
-pub entry_found : (c : List ℕ) (e : Entry) (es : List (List ℕ × Entry)) → AreEntries es → find client_cmp c es ≡ Some e → IsEntry c e
+pub entry_found : (c : List ℕ) (e : Entry) (es : List (List ℕ × Entry)) → AreEntries es → find client_cmp c es ≡ Some e → IsPlainEntry c e
 entry_found c e [] h is = none_there_some e is
   where
     none_there_some : {A P : Type 0} (x : A) → None ≡ Some x → P
     none_there_some x h = cc
 entry_found c e (f ∷ es) h is =
-    elim (eq_by_cmp client_cmp c f.0) as (λ b. eq_by_cmp client_cmp c f.0 ≡ b → cond b (Some f.1) (find client_cmp c es) ≡ Some e → IsEntry c e) [
-      | true ↦ λ t is. subst (λ x. IsEntry x e) (sym (tells_apart client_exact c f.0 t)) (subst (IsEntry f.0) (same_Some f.1 e is) h.0)
+    elim (eq_by_cmp client_cmp c f.0) as (λ b. eq_by_cmp client_cmp c f.0 ≡ b → cond b (Some f.1) (find client_cmp c es) ≡ Some e → IsPlainEntry c e) [
+      | true ↦ λ t is. subst (λ x. IsPlainEntry x e) (sym (tells_apart client_exact c f.0 t)) (subst (IsPlainEntry f.0) (same_Some f.1 e is) h.0)
       | false ↦ λ _ is. entry_found c e es h.1 is
     ] refl is
 
-pub seen_found : (c : List ℕ) (es : List (List ℕ × Entry)) (n : ℕ) (e : Entry) → IsTable es n → Some e ≡ lookup (is_at (client_cmp c)) es → e.seen ≡ view c (flat (rows_of es))
+pub seen_found : (c : List ℕ) (es : List (List ℕ × Entry)) (n : ℕ) (e : Entry) → IsPlainTable es n → Some e ≡ lookup (is_at (client_cmp c)) es → e.seen ≡ view c (flat (rows_of es))
 seen_found c es n e t is =
     (entry_found c e es t.each (sym (is ∙ lookup_is_find client_cmp c es))).worked_out.seen
     ∙ ap (view c) (own_found c es (Some e) is)
     ∙ sym (view_own c (flat (rows_of es)) ∙ ap (view c) (of_flat c (rows_of es) (table_rows es n t)))
 
-pub named_found : (c : List ℕ) (es : List (List ℕ × Entry)) (n : ℕ) (o : Option Entry) → IsTable es n → o ≡ lookup (is_at (client_cmp c)) es → is_named c (flat (rows_of es)) ≡ has_any (or_nothing (option_map (λ (e : Entry). e.ops.items) o))
+pub named_found : (c : List ℕ) (es : List (List ℕ × Entry)) (n : ℕ) (o : Option Entry) → IsPlainTable es n → o ≡ lookup (is_at (client_cmp c)) es → is_named c (flat (rows_of es)) ≡ has_any (or_nothing (option_map (λ (e : Entry). e.ops.items) o))
 named_found c es n o t is = named_flat c (rows_of es) (table_rows es n t) ∙ ap has_any (sym (own_found c es o is))
 
 pub any_length : (ops : List Op) → has_any ops ≡ not (length ops == 0)

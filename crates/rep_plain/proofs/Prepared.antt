@@ -19,11 +19,11 @@ use Rattle.rep_model.proofs.Thin.{thin-same}
 use Rattle.rep_model.proofs.Limits.{first_passed-thin}
 use Rattle.rep_plain.specs.declared.entry.Entry.{Entry}
 use Rattle.rep_plain.specs.Entries.{IsWorkedOut}
-use Rattle.rep_shared.specs.Rows.{flat, own, moved, has_any, count_named, IsOwn, IsOwnOp}
+use Rattle.rep_shared.specs.Rows.{flat, own, rows_with, has_any, count_named, IsOwn, IsOwnOp}
 use Rattle.rep_shared.specs.inner.Rows.{count_new, AreRows, of_client}
-use Rattle.rep_plain.specs.inner.Rows.{grown, IsGrown}
-use Rattle.rep_plain.specs.Tables.{rows_of, AreEntries, IsTable}
-use Rattle.rep_plain.specs.inner.Tables.{IsRoomier, is_known, passed_by, too_many_pending, too_many_parked, too_many_exceptions}
+use Rattle.rep_plain.specs.inner.Rows.{row_grown, IsGrown}
+use Rattle.rep_plain.specs.Tables.{rows_of, AreEntries, IsPlainTable}
+use Rattle.rep_plain.specs.inner.Tables.{IsRoomier, is_op_there, passed_by, too_many_pending, too_many_parked, too_many_exceptions}
 use Rattle.rep_shared.proofs.Flat.{of_flat, found_own, all_filter}
 use Rattle.rep_plain.proofs.Found.{table_rows}
 use Rattle.rep_plain.proofs.Taking.{same_news, same_grown}
@@ -70,7 +70,7 @@ any_right (x ∷ a) b h = refl
 none_some : {A P : Type 0} (x : A) → None ≡ Some x → P
 none_some x h = cc
 
-grown_some : (rows : List (List ℕ × List Op)) (N : List Op) (c : List ℕ) (ops : List Op) → AreRows rows → AllByRecursion IsNamed N → grown c rows N ≡ Some ops → IsOwn c ops × (has_any ops ≡ true)
+grown_some : (rows : List (List ℕ × List Op)) (N : List Op) (c : List ℕ) (ops : List Op) → AreRows rows → AllByRecursion IsNamed N → row_grown c rows N ≡ Some ops → IsOwn c ops × (has_any ops ≡ true)
 grown_some rows N c ops are each is =
     elim (has_any (of_client c N)) as (λ b. has_any (of_client c N) ≡ b → (if b then Some (own c rows ++ of_client c N) else None) ≡ Some ops → IsOwn c ops × (has_any ops ≡ true)) [
       | true ↦ λ any is.
@@ -83,15 +83,15 @@ grown_some rows N c ops are each is =
 
 -- ---- the fresh entries
 
-module _ (es : List (List ℕ × Entry)) (n : ℕ) (t : IsTable es n) (D : List Op) (made : AreWellMade D) (clients : AreOfClients D) (N : List Op)
-    (news : N ≡ filter (λ op. not (is_known (flat (rows_of es)) op)) D) (fs : List (List ℕ × Entry))
+module _ (es : List (List ℕ × Entry)) (n : ℕ) (t : IsPlainTable es n) (D : List Op) (made : AreWellMade D) (clients : AreOfClients D) (N : List Op)
+    (news : N ≡ filter (λ op. not (is_op_there (flat (rows_of es)) op)) D) (fs : List (List ℕ × Entry))
     (g : IsGrown (rows_of es) N (rows_of fs)) (sorted : T (is_sorted client_cmp (rows_of fs)))
     (worked : AllByRecursion (λ f. IsWorkedOut f.0 f.1) fs) where
   are : AreRows (rows_of es)
   are = table_rows es n t
 
   all_named : AllByRecursion IsNamed N
-  all_named = subst (AllByRecursion IsNamed) (sym news) (all_filter IsNamed (λ op. not (is_known (flat (rows_of es)) op)) D (all_well_named D clients made))
+  all_named = subst (AllByRecursion IsNamed) (sym news) (all_filter IsNamed (λ op. not (is_op_there (flat (rows_of es)) op)) D (all_well_named D clients made))
 
   each_row : AllByRecursion (λ row. IsOwn row.0 row.1 × (has_any row.1 ≡ true)) (rows_of fs)
   each_row = all-weaker (λ row. find client_cmp row.0 (rows_of fs) ≡ Some row.1) (λ row. IsOwn row.0 row.1 × (has_any row.1 ≡ true))
@@ -110,7 +110,7 @@ module _ (es : List (List ℕ × Entry)) (n : ℕ) (t : IsTable es n) (D : List 
   own_room room r c = sym (of_flat c (rows_of room) (table_rows room n (r.table n t))) ∙ ap (of_client c) r.same ∙ of_flat c (rows_of es) are
 
   -- the set that is kept after the commit
-  pub same_after : (room : List (List ℕ × Entry)) → IsRoomier es room → Same (flat (moved (rows_of room) (rows_of fs))) (flat (rows_of es) ++ D)
+  pub same_after : (room : List (List ℕ × Entry)) → IsRoomier es room → Same (flat (rows_with (rows_of room) (rows_of fs))) (flat (rows_of es) ++ D)
   same_after room r =
       same_trans (same_grown (rows_of es) (rows_of room) (rows_of fs) N are (table_rows room n (r.table n t)) are_fresh.owned (own_room room r) g)
       (subst (λ N. Same (flat (rows_of es) ++ N) (flat (rows_of es) ++ D)) (sym news) (same_news (flat (rows_of es)) D))
@@ -119,9 +119,9 @@ module _ (es : List (List ℕ × Entry)) (n : ℕ) (t : IsTable es n) (D : List 
   pub first_passed_both : (m : ℕ) → m ≡ n + count_new (rows_of es) (rows_of fs) → IsRoomier es es → passed_by m fs ≡ first_passed (flat (rows_of es) ++ D)
   first_passed_both m is r =
       first_passed_after es fs are t.each are_fresh m (is ∙ ap (λ n. n + count_new (rows_of es) (rows_of fs)) t.counted)
-      ∙ first_passed-thin (flat (moved (rows_of es) (rows_of fs))) (flat (rows_of es) ++ D) (thin-same (flat (moved (rows_of es) (rows_of fs))) (flat (rows_of es) ++ D) (same_after es r))
+      ∙ first_passed-thin (flat (rows_with (rows_of es) (rows_of fs))) (flat (rows_of es) ++ D) (thin-same (flat (rows_with (rows_of es) (rows_of fs))) (flat (rows_of es) ++ D) (same_after es r))
 
-  pub counted_after : (room : List (List ℕ × Entry)) → IsRoomier es room → (m : ℕ) → m ≡ n + count_new (rows_of es) (rows_of fs) → m ≡ count_named (moved (rows_of room) (rows_of fs))
+  pub counted_after : (room : List (List ℕ × Entry)) → IsRoomier es room → (m : ℕ) → m ≡ n + count_new (rows_of es) (rows_of fs) → m ≡ count_named (rows_with (rows_of room) (rows_of fs))
   counted_after room r m is =
       is ∙ ap (λ k. k + count_new (rows_of es) (rows_of fs)) (r.table n t).counted
       ∙ sym (λ i. count_named (rows_of room) + count_by (λ (row : List ℕ × List Op). not (has_any (own_room room r row.0 i))) (rows_of fs))

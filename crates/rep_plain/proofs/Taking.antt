@@ -18,10 +18,10 @@ use Rattle.rep_model.specs.Topics.{latest}
 use Rattle.rep_model.specs.Keep.{is_below, is_outdone, IsKeptOf}
 use Rattle.rep_model.proofs.Lookup.{or_else, filter_map-filter, list_any-filter, list_any-weaker}
 use Rattle.rep_model.proofs.Readers.{operation_exact, put_exact, same_client-true, operation_at_both, put_at_both, is_acknowledged_both, retain_at_both, operation_at_keep, put_at_keep, is_acknowledged_keep, retain_at_keep}
-use Rattle.rep_shared.specs.Rows.{flat, own, or_nothing, moved, has_any, IsOwn}
+use Rattle.rep_shared.specs.Rows.{flat, own, or_nothing, rows_with, has_any, IsOwn}
 use Rattle.rep_shared.specs.inner.Rows.{AreRows, of_client}
 use Rattle.rep_plain.specs.inner.Rows.{IsGrown}
-use Rattle.rep_plain.specs.inner.Tables.{has_range, is_known}
+use Rattle.rep_plain.specs.inner.Tables.{has_range, is_op_there}
 use Rattle.rep_shared.proofs.Single.{operation_at_own, put_at_own, is_acknowledged_own, retain_at_own}
 use Rattle.rep_shared.proofs.Flat.{of_flat, find_in_moved, rows_moved}
 
@@ -75,9 +75,9 @@ and_second false b e = absurd (true≢false (sym e))
 
 module _ (K D : List Op) where
   abbrev pub news : List Op
-  news = filter (λ op. not (is_known K op)) D
+  news = filter (λ op. not (is_op_there K op)) D
 
-  new_operation : (c : List ℕ) (op : Op) → IfSome (operation_of c op) (λ e. not (is_known K op) ≡ not (is_some (operation_at c K e.0)))
+  new_operation : (c : List ℕ) (op : Op) → IfSome (operation_of c op) (λ e. not (is_op_there K op) ≡ not (is_some (operation_at c K e.0)))
   new_operation c (OfSession d stamp counter change) =
       elim (same_client c d) as (λ b. same_client c d ≡ b → IfSome {T = (Stamp × ℕ) × SessionOp} (if b then Some ((stamp, counter), change) else None) (λ e. not (is_some (operation_at d K (stamp, counter))) ≡ not (is_some (operation_at c K e.0)))) [
         | true ↦ λ e. ap (λ x. not (is_some (operation_at x K (stamp, counter)))) (sym (same_client-true c d e))
@@ -87,7 +87,7 @@ module _ (K D : List Op) where
   new_operation c (Ack d origin low high) = tt
   new_operation c (OfRetain t k) = tt
 
-  new_put : (c : List ℕ) (op : Op) → IfSome (put_of c op) (λ e. not (is_known K op) ≡ not (is_some (put_at c K e.0)))
+  new_put : (c : List ℕ) (op : Op) → IfSome (put_of c op) (λ e. not (is_op_there K op) ≡ not (is_some (put_at c K e.0)))
   new_put c (OfSession d stamp counter change) = tt
   new_put c (OfPut d p) =
       elim (same_client c d) as (λ b. same_client c d ≡ b → IfSome {T = (ℕ × ℕ) × Put} (if b then Some ((p.seq, p.origin), p) else None) (λ e. not (is_some (put_at d K (p.seq, p.origin))) ≡ not (is_some (put_at c K e.0)))) [
@@ -98,7 +98,7 @@ module _ (K D : List Op) where
   new_put c (OfRetain t k) = tt
 
   -- what is retained is new, whatever is known
-  new_retain : (t : List ℕ) (op : Op) → IfSome (retain_of t op) (λ e. not (is_known K op) ≡ true)
+  new_retain : (t : List ℕ) (op : Op) → IfSome (retain_of t op) (λ e. not (is_op_there K op) ≡ true)
   new_retain t (OfSession d stamp counter change) = tt
   new_retain t (OfPut d p) = tt
   new_retain t (Ack d origin low high) = tt
@@ -132,7 +132,7 @@ module _ (K D : List Op) where
       let to : nat_le name.0 end ≡ true = le-leb name.0 end (le_then name.0 high end name-high high-end) in
       both_true (both_true (both_true client gateway) from) to
 
-  known_acknowledged : (c : List ℕ) (name : ℕ × ℕ) → is_acknowledged c K name ≡ false → (op : Op) → acknowledges c name op ≡ true → not (is_known K op) ≡ true
+  known_acknowledged : (c : List ℕ) (name : ℕ × ℕ) → is_acknowledged c K name ≡ false → (op : Op) → acknowledges c name op ≡ true → not (is_op_there K op) ≡ true
   known_acknowledged c name none (OfSession d stamp counter change) e = absurd (true≢false (sym e))
   known_acknowledged c name none (OfPut d p) e = absurd (true≢false (sym e))
   known_acknowledged c name none (OfRetain t k) e = absurd (true≢false (sym e))
@@ -145,28 +145,28 @@ module _ (K D : List Op) where
   pub same_news : Same (K ++ news) (K ++ D)
   same_news = record {
     operations_same = λ c name.
-        operation_at_both c K (filter (λ op. not (is_known K op)) D) name
-        ∙ found_first (operation_at c K name) (operation_at c (filter (λ op. not (is_known K op)) D) name) (operation_at c D name)
-        (ap (find operation_cmp name) (filter_map-filter (operation_of c) (λ op. not (is_known K op)) (λ n. not (is_some (operation_at c K n))) (new_operation c) D)
+        operation_at_both c K (filter (λ op. not (is_op_there K op)) D) name
+        ∙ found_first (operation_at c K name) (operation_at c (filter (λ op. not (is_op_there K op)) D) name) (operation_at c D name)
+        (ap (find operation_cmp name) (filter_map-filter (operation_of c) (λ op. not (is_op_there K op)) (λ n. not (is_some (operation_at c K n))) (new_operation c) D)
         ∙ find-where_key operation_cmp (λ n. not (is_some (operation_at c K n))) name (λ x t. ap (λ (n : Stamp × ℕ). not (is_some (operation_at c K n))) (sym (operation_exact name x t))) (filter_map (operation_of c) D))
         ∙ sym (operation_at_both c K D name);
     puts_same = λ c name.
-        put_at_both c K (filter (λ op. not (is_known K op)) D) name
-        ∙ found_first (put_at c K name) (put_at c (filter (λ op. not (is_known K op)) D) name) (put_at c D name)
-        (ap (find put_cmp name) (filter_map-filter (put_of c) (λ op. not (is_known K op)) (λ n. not (is_some (put_at c K n))) (new_put c) D)
+        put_at_both c K (filter (λ op. not (is_op_there K op)) D) name
+        ∙ found_first (put_at c K name) (put_at c (filter (λ op. not (is_op_there K op)) D) name) (put_at c D name)
+        (ap (find put_cmp name) (filter_map-filter (put_of c) (λ op. not (is_op_there K op)) (λ n. not (is_some (put_at c K n))) (new_put c) D)
         ∙ find-where_key put_cmp (λ n. not (is_some (put_at c K n))) name (λ x t. ap (λ (n : ℕ × ℕ). not (is_some (put_at c K n))) (sym (put_exact name x t))) (filter_map (put_of c) D))
         ∙ sym (put_at_both c K D name);
     acknowledgements_same = λ c name.
-        is_acknowledged_both c K (filter (λ op. not (is_known K op)) D) name
-        ∙ elim (is_acknowledged c K name) as (λ b. is_acknowledged c K name ≡ b → (b || is_acknowledged c (filter (λ op. not (is_known K op)) D) name) ≡ (b || is_acknowledged c D name)) [
+        is_acknowledged_both c K (filter (λ op. not (is_op_there K op)) D) name
+        ∙ elim (is_acknowledged c K name) as (λ b. is_acknowledged c K name ≡ b → (b || is_acknowledged c (filter (λ op. not (is_op_there K op)) D) name) ≡ (b || is_acknowledged c D name)) [
           | true ↦ λ _. refl
-          | false ↦ λ none. list_any-filter (acknowledges c name) (λ op. not (is_known K op)) (known_acknowledged c name none) D
+          | false ↦ λ none. list_any-filter (acknowledges c name) (λ op. not (is_op_there K op)) (known_acknowledged c name none) D
         ] refl
         ∙ sym (is_acknowledged_both c K D name);
     retains_same = λ t name.
-        retain_at_both t K (filter (λ op. not (is_known K op)) D) name
+        retain_at_both t K (filter (λ op. not (is_op_there K op)) D) name
         ∙ ap (λ (es : List ((ℕ × ℕ) × Retained)). or_else (retain_at t K name) (find clock_cmp name es))
-        (filter_map-filter (retain_of t) (λ op. not (is_known K op)) (λ n. true) (new_retain t) D ∙ all_stay (filter_map (retain_of t) D))
+        (filter_map-filter (retain_of t) (λ op. not (is_op_there K op)) (λ n. true) (new_retain t) D ∙ all_stay (filter_map (retain_of t) D))
         ∙ sym (retain_at_both t K D name);
   }
 
@@ -177,16 +177,16 @@ grown_own ops [] o e = e ∙ sym (append-nil ops)
 grown_own ops (op ∷ rest) o e = refl
 
 -- rows with the grown ones in their places have of each client what the rows and the list have
-pub own_grown : (rows room fresh : List (List ℕ × List Op)) (D : List Op) → ((c : List ℕ) → own c room ≡ own c rows) → IsGrown rows D fresh → (c : List ℕ) → own c (moved room fresh) ≡ own c rows ++ of_client c D
+pub own_grown : (rows room fresh : List (List ℕ × List Op)) (D : List Op) → ((c : List ℕ) → own c room ≡ own c rows) → IsGrown rows D fresh → (c : List ℕ) → own c (rows_with room fresh) ≡ own c rows ++ of_client c D
 own_grown rows room fresh D same h c =
     ap or_nothing (find_in_moved c room fresh)
     ∙ ap (λ x. or_nothing (or_else x (find client_cmp c room))) (h c)
     ∙ grown_own (own c rows) (of_client c D) (find client_cmp c room) (same c)
 
-pub same_grown : (rows room fresh : List (List ℕ × List Op)) (D : List Op) → AreRows rows → AreRows room → AllByRecursion (λ row. IsOwn row.0 row.1) fresh → ((c : List ℕ) → own c room ≡ own c rows) → IsGrown rows D fresh → Same (flat (moved room fresh)) (flat rows ++ D)
+pub same_grown : (rows room fresh : List (List ℕ × List Op)) (D : List Op) → AreRows rows → AreRows room → AllByRecursion (λ row. IsOwn row.0 row.1) fresh → ((c : List ℕ) → own c room ≡ own c rows) → IsGrown rows D fresh → Same (flat (rows_with room fresh)) (flat rows ++ D)
 same_grown rows room fresh D are place owned same h =
-    same_by_client (flat (moved room fresh)) (flat rows ++ D) (λ c.
-    of_flat c (moved room fresh) (rows_moved room fresh place owned)
+    same_by_client (flat (rows_with room fresh)) (flat rows ++ D) (λ c.
+    of_flat c (rows_with room fresh) (rows_moved room fresh place owned)
     ∙ own_grown rows room fresh D same h c
     ∙ ap (λ ops. ops ++ of_client c D) (sym (of_flat c rows are))
     ∙ sym (filter-append (λ op. same_client c (client_of op)) (flat rows) D))

@@ -15,7 +15,7 @@ use Rattle.rep_plain.specs.declared.ranges.Range.{Range}
 use Rattle.rep_plain.specs.declared.entry.Entry.{Entry}
 use Rattle.rep_plain.specs.Entries.{IsWorkedOut}
 use Rattle.rep_shared.specs.Steps.{capped}
-use Rattle.rep_plain.specs.inner.Steps.{range_in, numbers, above_gaps}
+use Rattle.rep_plain.specs.inner.Steps.{range_in, range_numbers, above_gaps}
 use Rattle.rep_plain.proofs.Entering.{numbers_acknowledged}
 
 -- the history that is read in the order of names is that of the list
@@ -28,7 +28,7 @@ history_in_order c S known seen k v =
 pub exceptions_of_ranges : (c : List ℕ) (S : List Op) (ranges : List Range) → ranges ≡ filter_map (range_in c) S → above_gaps ranges 255 ≡ exceptions c S
 unfolding exceptions above_gaps
 exceptions_of_ranges c S ranges is =
-    ap (λ (rs : List Range). sum_to (λ origin. above_a_gap (joined (filter_map (numbers origin) rs))) 255) is
+    ap (λ (rs : List Range). sum_to (λ origin. above_a_gap (joined (filter_map (range_numbers origin) rs))) 255) is
     ∙ (λ i. sum_to (λ origin. above_a_gap (joined (numbers_acknowledged c S origin i))) 255)
 
 -- nothing comes to nothing

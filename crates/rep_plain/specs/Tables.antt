@@ -14,7 +14,7 @@ abbrev pub rows_of : List (List ℕ × Entry) → List (List ℕ × List Op)
 rows_of entries = map (λ e. (e.0, e.1.ops.items)) entries
 
 -- the operations are the client's own, and what they come to passes no limit
-pub record IsEntry (c : List ℕ) (entry : Entry) : Type 0 where
+pub record IsPlainEntry (c : List ℕ) (entry : Entry) : Type 0 where
   pub own : IsOwn c entry.ops.items
   pub worked_out : IsWorkedOut c entry
   pub pending : length entry.seen.pending ≤ MOST_PENDING
@@ -23,10 +23,10 @@ pub record IsEntry (c : List ℕ) (entry : Entry) : Type 0 where
 
 -- each client has an entry of its own operations that passes no limit
 abbrev pub AreEntries : List (List ℕ × Entry) → Type 0
-AreEntries entries = AllByRecursion (λ e. IsEntry e.0 e.1) entries
+AreEntries entries = AllByRecursion (λ e. IsPlainEntry e.0 e.1) entries
 
 -- entries in the order of their clients; so many of them have operations
-pub record IsTable (entries : List (List ℕ × Entry)) (count : ℕ) : Type 0 where
+pub record IsPlainTable (entries : List (List ℕ × Entry)) (count : ℕ) : Type 0 where
   pub sorted : T (is_sorted client_cmp entries)
   pub each : AreEntries entries
   pub counted : count ≡ count_named (rows_of entries)

@@ -7,8 +7,8 @@ ghost use Rattle.std.specs.BTreeMap.{is_at};
 ghost use Rattle.rep_op.specs.declared.op.Op.{Op};
 ghost use Rattle.rep_op.specs.Orders.{client_cmp};
 ghost use Rattle.rep_model.specs.declared.fault.TheConstants.{MOST_CLIENTS};
-ghost use Rattle.rep_shared.specs.Rows.{own, moved, count_named, CanGoBack, AreSaved};
-ghost use Rattle.rep_plain.specs.Tables.{rows_of, IsEntry, AreEntries, IsTable, HaveRoom};
+ghost use Rattle.rep_shared.specs.Rows.{own, rows_with, count_named, CanGoBack, AreSaved};
+ghost use Rattle.rep_plain.specs.Tables.{rows_of, IsPlainEntry, AreEntries, IsPlainTable, HaveRoom};
 ghost use Rattle.rep_plain.specs.inner.Tables.{AreMovable, IsSaving};
 
 use super::entry::Entry;
@@ -30,9 +30,9 @@ pub(crate) fn save_all(
     requires sorted { T (is_sorted client_cmp table.now.entries) }
     requires each { AreEntries table.now.entries }
     requires room { HaveRoom (rows_of table.now.entries) (rows_of fresh.now) }
-    requires aside { IsTable aside.old.entries named.old }
+    requires aside { IsPlainTable aside.old.entries named.old }
     requires can { CanGoBack (rows_of table.now.entries) (rows_of aside.old.entries) }
-    ensures table { IsTable aside.new.entries named.new }
+    ensures table { IsPlainTable aside.new.entries named.new }
     ensures saving { IsSaving (rows_of table.now.entries) (rows_of aside.old.entries)
         (rows_of aside.new.entries) }
     ensures saved { OnOk result (AreSaved (rows_of aside.new.entries) (rows_of fresh.now)) }
@@ -54,9 +54,9 @@ fn save_one(
     requires sorted { T (is_sorted client_cmp table.now.entries) }
     requires each { AreEntries table.now.entries }
     requires there { IsSome (find client_cmp client.now (rows_of table.now.entries)) }
-    requires aside { IsTable aside.old.entries named.old }
+    requires aside { IsPlainTable aside.old.entries named.old }
     requires can { CanGoBack (rows_of table.now.entries) (rows_of aside.old.entries) }
-    ensures table { IsTable aside.new.entries named.new }
+    ensures table { IsPlainTable aside.new.entries named.new }
     ensures saving { IsSaving (rows_of table.now.entries) (rows_of aside.old.entries)
         (rows_of aside.new.entries) }
     ensures saved { OnOk result
@@ -79,12 +79,12 @@ fn put_aside(
     client: &ClientId,
     held: &Entry,
 ) -> Result<(), NoMemory>
-    requires entry { IsEntry client.now held.now }
+    requires entry { IsPlainEntry client.now held.now }
     requires absent { lookup (is_at (client_cmp client.now)) aside.old.entries ≡ None }
-    requires aside { IsTable aside.old.entries named.old }
+    requires aside { IsPlainTable aside.old.entries named.old }
     requires few { count_named (put client_cmp client.now held.now.ops.items
         (rows_of aside.old.entries)) ≤ MOST_CLIENTS }
-    ensures table { IsTable aside.new.entries named.new }
+    ensures table { IsPlainTable aside.new.entries named.new }
     ensures saving { (rows : List (List ℕ × List Op)) → T (is_sorted client_cmp rows)
         → IsSome (find client_cmp client.now rows)
         → own client.now rows ≡ held.now.ops.items
@@ -103,7 +103,7 @@ fn put_aside(
 /// An equal entry.
 fn equal_entry(alloc: Global, held: &Entry) -> Result<Entry, NoMemory>
     ensures ops { IfOk result (λ made. made.ops.items ≡ held.now.ops.items) }
-    ensures entry { (c : List ℕ) → IsEntry c held.now → IfOk result (IsEntry c) }
+    ensures entry { (c : List ℕ) → IsPlainEntry c held.now → IfOk result (IsPlainEntry c) }
 {
     let ops = copy_ops(alloc, held.ops.as_slice())?;
     let seen = held.seen.copied(alloc)?;
@@ -120,7 +120,7 @@ pub(crate) fn put_all_back(table: &mut Table, aside: Table)
     requires movable { AreMovable table.old.entries aside.entries }
     requires sorted { T (is_sorted client_cmp (rows_of aside.entries)) }
     requires room { HaveRoom (rows_of table.old.entries) (rows_of aside.entries) }
-    ensures rows { rows_of table.new.entries ≡ moved (rows_of table.old.entries)
+    ensures rows { rows_of table.new.entries ≡ rows_with (rows_of table.old.entries)
         (rows_of aside.entries) }
     ensures movable { AreMovable table.new.entries [] }
 {

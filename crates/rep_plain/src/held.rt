@@ -5,7 +5,7 @@ ghost use Rattle.rep_model.specs.Keep.{keep};
 ghost use Rattle.rep_model.specs.Keep as keeps;
 ghost use Rattle.rep_plain.specs.inner.Rows.{kept_rows};
 ghost use Rattle.rep_plain.specs.inner.Steps as spec;
-ghost use Rattle.rep_plain.specs.Tables.{rows_of, IsEntry, AreEntries};
+ghost use Rattle.rep_plain.specs.Tables.{rows_of, IsPlainEntry, AreEntries};
 
 use super::entry::Entry;
 use super::news::push_copy;
@@ -34,7 +34,7 @@ fn add_kept(
     client: &ClientId,
     entry: &Entry,
 ) -> Result<(), NoMemory>
-    requires { IsEntry client.now entry.now }
+    requires { IsPlainEntry client.now entry.now }
     ensures { OnOk result (kept.new.items ≡ kept.old.items ++ keep entry.now.ops.items) }
 {
     let ops = entry.ops.as_slice();

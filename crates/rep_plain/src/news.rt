@@ -25,7 +25,7 @@ pub(crate) fn news(alloc: Global, table: &Table, delta: &[Op]) -> Result<Vec<Op>
     requires clients { AreOfClients delta.now }
     ensures agree { OnOk result (AllAgree (flat (rows_of table.now.entries)) delta.now) }
     ensures news { IfOk result (λ news. news.items
-        ≡ filter (λ op. not (spec.is_known (flat (rows_of table.now.entries)) op)) delta.now) }
+        ≡ filter (λ op. not (spec.is_op_there (flat (rows_of table.now.entries)) op)) delta.now) }
     ensures fault { IfErr result (IsFaultOf (flat (rows_of table.now.entries)) delta.now) }
 {
     let mut news = Vec::new(alloc);
@@ -48,7 +48,7 @@ fn add_new(alloc: Global, table: &Table, news: &mut Vec<Op>, op: &Op) -> Result<
     if !agrees(kept, op) {
         return Err(conflict(alloc, op));
     }
-    if !is_known(kept, op) {
+    if !is_op_there(kept, op) {
         push_copy(alloc, news, op)?;
     }
     Ok(())
@@ -65,8 +65,8 @@ fn conflict(alloc: Global, op: &Op) -> TakeFault
 }
 
 /// Whether the operation's name is there.
-fn is_known(ops: &[Op], op: &Op) -> bool
-    ensures { result ≡ spec.is_known ops.now op.now }
+fn is_op_there(ops: &[Op], op: &Op) -> bool
+    ensures { result ≡ spec.is_op_there ops.now op.now }
 {
     match op {
         Op::Session {

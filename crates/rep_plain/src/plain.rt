@@ -34,11 +34,11 @@ impl Model for PlainClients {
 
     ghost Value = { List (List ℕ × List Op) };
 
-    ghost use Rattle.rep_plain.specs.Tables.{rows_of, IsTable};
+    ghost use Rattle.rep_plain.specs.Tables.{rows_of, IsPlainTable};
 
     ghost view = { λ p. rows_of p.table.entries };
 
-    ghost invariant = { λ p. IsTable p.table.entries p.named };
+    ghost invariant = { λ p. IsPlainTable p.table.entries p.named };
 }
 
 /// Operations that fit: the entries of the clients that they name, with them.
@@ -66,19 +66,19 @@ impl Model for Staged {
 
 impl ClientSet for PlainClients {
     ghost use Rattle.std.specs.Prelude.{◌≡◌};
-    ghost use Rattle.rep_shared.specs.Rows.{flat, moved, count_named, CanGoBack, AreSaved};
+    ghost use Rattle.rep_shared.specs.Rows.{flat, rows_with, count_named, CanGoBack, AreSaved};
     ghost use Rattle.rep_plain.specs.Tables.{HaveRoom};
 
     type Staged = Staged;
 
     ghost kept = { λ rows. flat rows };
 
-    ghost after = { λ rows staged. flat (moved rows staged.0) };
+    ghost after = { λ rows staged. flat (rows_with rows staged.0) };
 
     ghost ready = { λ rows staged. HaveRoom rows staged.0
-        × (staged.1 ≡ count_named (moved rows staged.0)) };
+        × (staged.1 ≡ count_named (rows_with rows staged.0)) };
 
-    ghost back = { λ rows aside. flat (moved rows aside) };
+    ghost back = { λ rows aside. flat (rows_with rows aside) };
 
     ghost can_go_back = { λ rows aside. CanGoBack rows aside };
 

@@ -19,7 +19,7 @@ pub(crate) struct Range {
 }
 
 impl Range {
-    ghost use Rattle.rep_plain.specs.inner.Steps.{range_in, covers, numbers};
+    ghost use Rattle.rep_plain.specs.inner.Steps.{range_in, range_has, range_numbers};
 
     /// The client's acknowledgements in one operation.
     fn in_op(op: &Op, client: &ClientId) -> Option<Range>
@@ -42,14 +42,14 @@ impl Range {
 
     /// Whether the range has the name of the put.
     fn covers(&self, seq: u64, origin: u8) -> bool
-        ensures { result ≡ covers (seq, origin) self.now }
+        ensures { result ≡ range_has (seq, origin) self.now }
     {
         origin == self.origin && self.first <= seq && seq <= self.last
     }
 
     /// The sequence numbers of the origin in the range.
     fn numbers(&self, origin: u8) -> Option<(u64, u64)>
-        ensures { result ≡ numbers origin self.now }
+        ensures { result ≡ range_numbers origin self.now }
     {
         if origin == self.origin && self.first <= self.last {
             Some((self.first, self.last))
@@ -60,7 +60,7 @@ impl Range {
 }
 
 ghost use Rattle.rep_shared.specs.Steps.{capped};
-ghost use Rattle.rep_plain.specs.inner.Steps.{range_in, covers, numbers, above_gaps};
+ghost use Rattle.rep_plain.specs.inner.Steps.{range_in, range_has, range_numbers, above_gaps};
 
 /// The client's acknowledgements in the order in which they came.
 pub(crate) fn ranges_of(
@@ -79,7 +79,7 @@ pub(crate) fn ranges_of(
 
 /// Whether a put of that name is acknowledged.
 pub(crate) fn is_covered(ranges: &[Range], seq: u64, origin: u8) -> bool
-    ensures { result ≡ list_any (covers (seq, origin)) ranges.now }
+    ensures { result ≡ list_any (range_has (seq, origin)) ranges.now }
 {
     ranges.iter().any(|range| range.covers(seq, origin))
 }
@@ -98,7 +98,8 @@ pub(crate) fn exceptions(alloc: Global, ranges: &[Range]) -> Result<u64, NoMemor
 
 /// The numbers of an origin as ranges in ascending order that do not touch.
 fn joined_numbers(alloc: Global, ranges: &[Range], origin: u8) -> Result<Vec<(u64, u64)>, NoMemory>
-    ensures { IfOk result (λ made. made.items ≡ joined (filter_map (numbers origin) ranges.now)) }
+    ensures { IfOk result
+        (λ made. made.items ≡ joined (filter_map (range_numbers origin) ranges.now)) }
 {
     let mut made = Vec::new(alloc);
     let mut i = ranges.len();
@@ -116,8 +117,9 @@ fn with_numbers(
     origin: u8,
     made: Vec<(u64, u64)>,
 ) -> Result<Vec<(u64, u64)>, NoMemory>
-    ensures { (S : List Range) → made.items ≡ joined (filter_map (numbers origin) S)
-        → IfOk result (λ more. more.items ≡ joined (filter_map (numbers origin) (range.now ∷ S))) }
+    ensures { (S : List Range) → made.items ≡ joined (filter_map (range_numbers origin) S)
+        → IfOk result (λ more. more.items
+        ≡ joined (filter_map (range_numbers origin) (range.now ∷ S))) }
 {
     match range.numbers(origin) {
         Some(numbers) => with_range(alloc, numbers, made.as_slice()),

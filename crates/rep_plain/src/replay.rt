@@ -3,7 +3,7 @@
 ghost use Rattle.std.specs.Prelude.{◌≡◌, length, IfOk};
 ghost use Rattle.std.specs.FinMap.{find};
 ghost use Rattle.rep_op.specs.Orders.{operation_cmp};
-ghost use Rattle.rep_model.specs.Views.{history_at, session_of};
+ghost use Rattle.rep_model.specs.Views.{history_at, session_made};
 
 use octets::NoMemory;
 use rep_ops::{MAX_OPERATIONS, Stamp};
@@ -21,7 +21,7 @@ pub(crate) fn replay(
 ) -> Result<(u16, Option<Session>), NoMemory>
     ensures prefix { IfOk result (λ made. made.0
         ≡ length (history_at (λ name. find operation_cmp name known.now.entries) visible)) }
-    ensures session { IfOk result (λ made. made.1 ≡ session_of
+    ensures session { IfOk result (λ made. made.1 ≡ session_made
         (history_at (λ name. find operation_cmp name known.now.entries) visible)) }
 {
     let Some(stamp) = visible else {

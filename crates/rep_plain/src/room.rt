@@ -5,7 +5,7 @@ ghost use Rattle.std.specs.FinMap.{find};
 ghost use Rattle.std.specs.Map.{lookup};
 ghost use Rattle.std.specs.BTreeMap.{is_at, insert_entry};
 ghost use Rattle.rep_op.specs.Orders.{client_cmp};
-ghost use Rattle.rep_shared.specs.Rows.{moved};
+ghost use Rattle.rep_shared.specs.Rows.{rows_with};
 ghost use Rattle.rep_plain.specs.Tables.{rows_of, HaveRoom};
 ghost use Rattle.rep_plain.specs.inner.Tables.{IsRoomier, AreMovable};
 
@@ -44,7 +44,7 @@ fn add_place(alloc: Global, table: &mut Table, client: &ClientId) -> Result<(), 
 /// Moves the fresh entries into their places.
 pub(crate) fn move_in(table: &mut Table, mut fresh: Vec<(ClientId, Entry)>)
     requires { HaveRoom (rows_of table.old.entries) (rows_of fresh.items) }
-    ensures rows { rows_of table.new.entries ≡ moved (rows_of table.old.entries)
+    ensures rows { rows_of table.new.entries ≡ rows_with (rows_of table.old.entries)
         (rows_of fresh.items) }
     ensures movable { AreMovable table.old.entries fresh.items → AreMovable table.new.entries [] }
 {

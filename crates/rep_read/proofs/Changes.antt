@@ -16,7 +16,7 @@ use Rattle.sn_session.specs.declared.change.SessionOp.{SessionOp}
 use Rattle.sn_session.specs.declared.change.SessionOp.TheVariants.{Take, Presence as SetPresence, Register, Subscribe, Unsubscribe, WillTopic as SetWillTopic, WillMsg, Received, Released, Outbound as SetOutbound}
 use Rattle.rep_op.specs.declared.fault.OpsFault.{OpsFault}
 use Rattle.rep_op.specs.Ranges.{is_change}
-use Rattle.rep_read.specs.Reading.{Reader, ◌>>=◌, both, made, ranged, octet_at, number_at, is_counted, filter_at, body_at, presence_at, entry_at, subscription_at, some_topic_at, some_exchange_at, session_at, set_presence_at, set_outbound_at, fields_at, is_tag, change_at}
+use Rattle.rep_read.specs.Reading.{Reader, ◌>>=◌, both, made_from, ranged, octet_at, number_at, is_positive, filter_at, body_at, presence_at, entry_at, subscription_at, some_topic_at, some_exchange_at, session_at, set_presence_at, set_outbound_at, fields_at, is_tag, change_at}
 use Rattle.rep_op.specs.Sessions.{text_octets, presence_octet, option_octets, topic_octets, subscription_octets, will_topic_octets, exchange_octets, session_octets, change_octets}
 use Rattle.rep_op.specs.Values.{IsChangeValue}
 use Rattle.rep_op.specs.WellMade.{is_counted as is_counted_change}
@@ -43,7 +43,7 @@ pair_law : Law pair_at pair_text FitsPair
 pair_law = both_law presence_at (λ p. one_octet (presence_octet p)) (λ p. Unit {0}) presence_law (number_at w16) (to_be_bytes w16) (λ n. n < 2 ^ 16) two_law
 
 abbrev next_at : Reader (ℕ × Option Outbound)
-next_at = both (ranged is_counted (number_at w16)) some_exchange_at
+next_at = both (ranged is_positive (number_at w16)) some_exchange_at
 
 abbrev next_text : ℕ × Option Outbound → List ℕ
 next_text x = to_be_bytes w16 x.0 ++ option_octets exchange_octets x.1
@@ -52,13 +52,13 @@ abbrev FitsNext : ℕ × Option Outbound → Type 0
 FitsNext x = IsTwo x.0 × FitsOption FitsExchange x.1
 
 next_law : Law next_at next_text FitsNext
-next_law = both_law (ranged is_counted (number_at w16)) (to_be_bytes w16) IsTwo counted_two_law some_exchange_at (option_octets exchange_octets) (FitsOption FitsExchange) some_exchange_law
+next_law = both_law (ranged is_positive (number_at w16)) (to_be_bytes w16) IsTwo counted_two_law some_exchange_at (option_octets exchange_octets) (FitsOption FitsExchange) some_exchange_law
 
 -- ---- what was read of a tag and its fields
 
 kind_takes : {A : Type 0} (counter tag : ℕ) (f : A → SessionOp) (p : Reader A) (text : A → List ℕ) (Fits : A → Type 0) → Law p text Fits
     → ((a : A) → Fits a → (tag ∷ text a ≡ change_octets (f a)) × FitsChange counter (f a))
-    → (after : List ℕ) (x : SessionOp × List ℕ) → IsBytes after → made f p after ≡ Ok x → Taken change_octets (FitsChange counter) (tag ∷ after) x
+    → (after : List ℕ) (x : SessionOp × List ℕ) → IsBytes after → made_from f p after ≡ Ok x → Taken change_octets (FitsChange counter) (tag ∷ after) x
 kind_takes {A} counter tag f p text Fits lp over after x fits e =
     let b = bind_ok (p after) (λ x. Ok (f x.0, x.1)) x e in
     let t = lp.takes after b.0 fits b.1 in
@@ -129,7 +129,7 @@ fields_take counter (suc (suc (suc (suc (suc (suc (suc (suc (suc (suc tag)))))))
 
 -- ---- what was written
 
-carry : {A : Type 0} (f : A → SessionOp) (p : Reader A) (a : A) (bytes rest : List ℕ) → p bytes ≡ Ok (a, rest) → made f p bytes ≡ Ok (f a, rest)
+carry : {A : Type 0} (f : A → SessionOp) (p : Reader A) (a : A) (bytes rest : List ℕ) → p bytes ≡ Ok (a, rest) → made_from f p bytes ≡ Ok (f a, rest)
 carry {A} f p a bytes rest e = ap (λ (r : Result (A × List ℕ) OpsFault). r >>= λ x. Ok (f x.0, x.1)) e
 
 fields_again : (counter : ℕ) (o : SessionOp) (rest : List ℕ) → FitsChange counter o → (tag : ℕ) × (after : List ℕ) × (change_octets o ≡ tag ∷ after) × (tag < 256) × (is_tag counter tag ≡ true) × (fields_at tag (after ++ rest) ≡ Ok (o, rest))
@@ -173,7 +173,7 @@ tag_at counter = ranged (is_tag counter) octet_at
 tag_law : (counter : ℕ) → Law (tag_at counter) one_octet (λ n. IsOctet n × (is_tag counter n ≡ true))
 tag_law counter = ranged_law (is_tag counter) octet_at one_octet IsOctet octet_law
 
-made_stable : {A : Type 0} (f : A → SessionOp) (p : Reader A) (text : A → List ℕ) (Fits : A → Type 0) → Law p text Fits → (after more : List ℕ) → IsStable more (made f p after) (made f p (after ++ more))
+made_stable : {A : Type 0} (f : A → SessionOp) (p : Reader A) (text : A → List ℕ) (Fits : A → Type 0) → Law p text Fits → (after more : List ℕ) → IsStable more (made_from f p after) (made_from f p (after ++ more))
 made_stable f p text Fits lp after more = bind_stable more (p after) (p (after ++ more)) (λ x. Ok (f x.0, x.1)) (lp.stable after more) (λ x. inr refl)
 
 outbound_stable : (after more : List ℕ) → IsStable more (set_outbound_at after) (set_outbound_at (after ++ more))
@@ -191,23 +191,23 @@ chosen more false p q after hp hq = hq
 
 fields_stable : (tag : ℕ) (after more : List ℕ) → IsStable more (fields_at tag after) (fields_at tag (after ++ more))
 fields_stable tag after more =
-    let s8 = chosen more (tag == 8) (made (λ id. Released id) (number_at w16)) set_outbound_at after (made_stable (λ id. Released id) (number_at w16) _ _ two_law after more) (outbound_stable after more) in
-    let r8 : Reader SessionOp = λ b. cond (tag == 8) (made (λ id. Released id) (number_at w16) b) (set_outbound_at b) in
-    let s7 = chosen more (tag == 7) (made (λ id. Received id) (number_at w16)) r8 after (made_stable (λ id. Received id) (number_at w16) _ _ two_law after more) s8 in
-    let r7 : Reader SessionOp = λ b. cond (tag == 7) (made (λ id. Received id) (number_at w16) b) (r8 b) in
-    let s6 = chosen more (tag == 6) (made (λ m. WillMsg m) body_at) r7 after (made_stable (λ m. WillMsg m) body_at _ _ body_law after more) s7 in
-    let r6 : Reader SessionOp = λ b. cond (tag == 6) (made (λ m. WillMsg m) body_at b) (r7 b) in
-    let s5 = chosen more (tag == 5) (made (λ a. SetWillTopic a) some_topic_at) r6 after (made_stable (λ a. SetWillTopic a) some_topic_at _ _ some_topic_law after more) s6 in
-    let r5 : Reader SessionOp = λ b. cond (tag == 5) (made (λ a. SetWillTopic a) some_topic_at b) (r6 b) in
-    let s4 = chosen more (tag == 4) (made (λ a. Unsubscribe a) filter_at) r5 after (made_stable (λ a. Unsubscribe a) filter_at _ _ filter_law after more) s5 in
-    let r4 : Reader SessionOp = λ b. cond (tag == 4) (made (λ a. Unsubscribe a) filter_at b) (r5 b) in
-    let s3 = chosen more (tag == 3) (made (λ s. Subscribe s.filter s.qos) subscription_at) r4 after (made_stable (λ s. Subscribe s.filter s.qos) subscription_at _ _ subscription_law after more) s4 in
-    let r3 : Reader SessionOp = λ b. cond (tag == 3) (made (λ s. Subscribe s.filter s.qos) subscription_at b) (r4 b) in
-    let s2 = chosen more (tag == 2) (made (λ e. Register e.id e.name e.known) entry_at) r3 after (made_stable (λ e. Register e.id e.name e.known) entry_at _ _ entry_law after more) s3 in
-    let r2 : Reader SessionOp = λ b. cond (tag == 2) (made (λ e. Register e.id e.name e.known) entry_at b) (r3 b) in
+    let s8 = chosen more (tag == 8) (made_from (λ id. Released id) (number_at w16)) set_outbound_at after (made_stable (λ id. Released id) (number_at w16) _ _ two_law after more) (outbound_stable after more) in
+    let r8 : Reader SessionOp = λ b. cond (tag == 8) (made_from (λ id. Released id) (number_at w16) b) (set_outbound_at b) in
+    let s7 = chosen more (tag == 7) (made_from (λ id. Received id) (number_at w16)) r8 after (made_stable (λ id. Received id) (number_at w16) _ _ two_law after more) s8 in
+    let r7 : Reader SessionOp = λ b. cond (tag == 7) (made_from (λ id. Received id) (number_at w16) b) (r8 b) in
+    let s6 = chosen more (tag == 6) (made_from (λ m. WillMsg m) body_at) r7 after (made_stable (λ m. WillMsg m) body_at _ _ body_law after more) s7 in
+    let r6 : Reader SessionOp = λ b. cond (tag == 6) (made_from (λ m. WillMsg m) body_at b) (r7 b) in
+    let s5 = chosen more (tag == 5) (made_from (λ a. SetWillTopic a) some_topic_at) r6 after (made_stable (λ a. SetWillTopic a) some_topic_at _ _ some_topic_law after more) s6 in
+    let r5 : Reader SessionOp = λ b. cond (tag == 5) (made_from (λ a. SetWillTopic a) some_topic_at b) (r6 b) in
+    let s4 = chosen more (tag == 4) (made_from (λ a. Unsubscribe a) filter_at) r5 after (made_stable (λ a. Unsubscribe a) filter_at _ _ filter_law after more) s5 in
+    let r4 : Reader SessionOp = λ b. cond (tag == 4) (made_from (λ a. Unsubscribe a) filter_at b) (r5 b) in
+    let s3 = chosen more (tag == 3) (made_from (λ s. Subscribe s.filter s.qos) subscription_at) r4 after (made_stable (λ s. Subscribe s.filter s.qos) subscription_at _ _ subscription_law after more) s4 in
+    let r3 : Reader SessionOp = λ b. cond (tag == 3) (made_from (λ s. Subscribe s.filter s.qos) subscription_at b) (r4 b) in
+    let s2 = chosen more (tag == 2) (made_from (λ e. Register e.id e.name e.known) entry_at) r3 after (made_stable (λ e. Register e.id e.name e.known) entry_at _ _ entry_law after more) s3 in
+    let r2 : Reader SessionOp = λ b. cond (tag == 2) (made_from (λ e. Register e.id e.name e.known) entry_at b) (r3 b) in
     let s1 = chosen more (tag == 1) set_presence_at r2 after (presence_stable after more) s2 in
     let r1 : Reader SessionOp = λ b. cond (tag == 1) (set_presence_at b) (r2 b) in
-    chosen more (tag == 0) (made (λ s. Take s) session_at) r1 after (made_stable (λ s. Take s) session_at _ _ session_law after more) s1
+    chosen more (tag == 0) (made_from (λ s. Take s) session_at) r1 after (made_stable (λ s. Take s) session_at _ _ session_law after more) s1
 
 abbrev by_tag : ℕ × List ℕ → Result (SessionOp × List ℕ) OpsFault
 by_tag tag = fields_at tag.0 tag.1

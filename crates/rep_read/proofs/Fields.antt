@@ -11,7 +11,7 @@ use Rattle.sn_session.specs.declared.outbound.Phase.{Phase}
 use Rattle.sn_session.specs.declared.outbound.Phase.TheVariants as phases
 use Rattle.rep_op.specs.ClientIds.{IsClientId}
 use Rattle.sn_tables.specs.Levels.{is_qos}
-use Rattle.rep_read.specs.Reading.{ranged, octet_at, number_at, sized_at, client_at, topic_at, filter_at, body_at, flag_at, presence_of, presence_at, phase_of, phase_at, qos_at}
+use Rattle.rep_read.specs.Reading.{ranged, octet_at, number_at, sized_at, client_id_at, topic_at, filter_at, body_at, flag_at, presence_of, presence_at, phase_from, phase_at, qos_at}
 use Rattle.rep_op.specs.Spelling.{client_octets}
 use Rattle.rep_op.specs.Sessions.{text_octets, flag_octet, presence_octet, phase_octet}
 use Rattle.rep_read.proofs.Laws.{Law, made_law, ranged_law, same_law, octet_law, wide16, number_law, sized_law}
@@ -24,10 +24,10 @@ IsOctet n = n < 256
 
 -- ---- texts
 
-pub client_law : Law client_at client_octets IsClientId
-unfolding client_at
+pub client_law : Law client_id_at client_octets IsClientId
+unfolding client_id_at
 client_law =
-    same_law client_at (λ t. one_octet (length t) ++ t) (λ t. IsOctet (length t) × ((nat_le 1 (length t) && nat_le (length t) 23) ≡ true))
+    same_law client_id_at (λ t. one_octet (length t) ++ t) (λ t. IsOctet (length t) × ((nat_le 1 (length t) && nat_le (length t) 23) ≡ true))
     (sized_law (λ n. nat_le 1 n && nat_le n 23) octet_at one_octet IsOctet octet_law) client_octets IsClientId
     (λ c h. (refl, let p = and_parts _ _ h.1 in (leb-true _ _ p.0, leb-true _ _ p.1)))
     (λ c h. (let most = h.1 in omega arith, and_from _ _ (le-leb _ _ h.0) (le-leb _ _ h.1)))
@@ -99,13 +99,13 @@ presence_law =
     made_law presence_of (ranged (λ n. nat_le n 4) octet_at) one_octet (λ n. IsOctet n × (nat_le n 4 ≡ true)) (ranged_law (λ n. nat_le n 4) octet_at one_octet IsOctet octet_law)
     (λ p. one_octet (presence_octet p)) (λ p. Unit {0}) (λ n h. (presence_over n h.1, tt)) (λ p h. presence_back p)
 
-phase_over : (n : ℕ) → nat_le n 2 ≡ true → one_octet n ≡ one_octet (phase_octet (phase_of n))
+phase_over : (n : ℕ) → nat_le n 2 ≡ true → one_octet n ≡ one_octet (phase_octet (phase_from n))
 phase_over zero e = refl
 phase_over (suc zero) e = refl
 phase_over (suc (suc zero)) e = refl
 phase_over (suc (suc (suc n))) e = absurd (let le = leb-true _ _ e in omega arith)
 
-phase_back : (p : Phase) → (n : ℕ) × (phase_of n ≡ p) × (IsOctet n × (nat_le n 2 ≡ true)) × (one_octet n ≡ one_octet (phase_octet p))
+phase_back : (p : Phase) → (n : ℕ) × (phase_from n ≡ p) × (IsOctet n × (nat_le n 2 ≡ true)) × (one_octet n ≡ one_octet (phase_octet p))
 phase_back phases.Registering = (0, refl, (omega arith, refl), refl)
 phase_back phases.Published = (1, refl, (omega arith, refl), refl)
 phase_back phases.Released = (2, refl, (omega arith, refl), refl)
@@ -113,7 +113,7 @@ phase_back phases.Released = (2, refl, (omega arith, refl), refl)
 pub phase_law : Law phase_at (λ p. one_octet (phase_octet p)) (λ p. Unit {0})
 unfolding phase_at
 phase_law =
-    made_law phase_of (ranged (λ n. nat_le n 2) octet_at) one_octet (λ n. IsOctet n × (nat_le n 2 ≡ true)) (ranged_law (λ n. nat_le n 2) octet_at one_octet IsOctet octet_law)
+    made_law phase_from (ranged (λ n. nat_le n 2) octet_at) one_octet (λ n. IsOctet n × (nat_le n 2 ≡ true)) (ranged_law (λ n. nat_le n 2) octet_at one_octet IsOctet octet_law)
     (λ p. one_octet (phase_octet p)) (λ p. Unit {0}) (λ n h. (phase_over n h.1, tt)) (λ p h. phase_back p)
 
 abbrev pub IsQos : ℕ → Type 0

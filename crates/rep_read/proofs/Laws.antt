@@ -6,7 +6,7 @@ use Rattle.std.proofs.lemmas.List.{take_at, drop_at, take-append-drop, length-ap
 use Rattle.std.proofs.lemmas.Nat.{be_bytes_2, be_bytes_4, be_bytes_8, from_be_bytes-to_be_bytes_2, from_be_bytes-to_be_bytes_4, from_be_bytes-to_be_bytes_8}
 use Rattle.rep_op.specs.declared.fault.OpsFault.{OpsFault}
 use Rattle.rep_op.specs.declared.fault.OpsFault.TheVariants.{Truncated, Kind}
-use Rattle.rep_read.specs.Reading.{Reader, ◌>>=◌, both, by_first, made, ranged, octet_at, octets_at, number_at, sized_at}
+use Rattle.rep_read.specs.Reading.{Reader, ◌>>=◌, both, by_first, made_from, ranged, octet_at, octets_at, number_at, sized_at}
 
 abbrev pub IsBytes : List ℕ → Type 0
 IsBytes bytes = (i : ℕ) → get_or bytes i 0 < 256
@@ -105,7 +105,7 @@ pub both_law : {A B : Type 0} (p : Reader A) (textp : A → List ℕ) (Fp : A �
 both_law p textp Fp lp q textq Fq lq = by_first_law p textp Fp lp (λ _. q) (λ _. textq) (λ _. Fq) (λ _. lq)
 
 pub made_law : {A B : Type 0} (f : A → B) (p : Reader A) (textp : A → List ℕ) (Fp : A → Type 0) → Law p textp Fp → (text : B → List ℕ) (Fits : B → Type 0)
-    → ((a : A) → Fp a → (textp a ≡ text (f a)) × Fits (f a)) → ((b : B) → Fits b → (a : A) × (f a ≡ b) × Fp a × (textp a ≡ text b)) → Law (made f p) text Fits
+    → ((a : A) → Fp a → (textp a ≡ text (f a)) × Fits (f a)) → ((b : B) → Fits b → (a : A) × (f a ≡ b) × Fp a × (textp a ≡ text b)) → Law (made_from f p) text Fits
 made_law {A} {B} f p textp Fp lp text Fits over back = record {
   takes = λ bytes x fits e.
       let b = bind_ok (p bytes) (λ x. Ok (f x.0, x.1)) x e in
@@ -115,8 +115,8 @@ made_law {A} {B} f p textp Fp lp text Fits over back = record {
       subst (λ (y : B × List ℕ). Taken text Fits bytes y) (ok_is whole x b.2) (record { parts = t.parts ∙ ap (λ (z : List ℕ). z ++ b.0.1) o.0; rest = t.rest; fits = o.1 });
   again = λ b rest fits.
       let r = back b fits in
-      let read : made f p (textp r.0 ++ rest) ≡ Ok (f r.0, rest) = rw (lp.again r.0 rest r.2) refl in
-      sym (ap (λ (z : List ℕ). made f p (z ++ rest)) r.3) ∙ (read ∙ ap (λ (z : B). Ok (z, rest)) r.1);
+      let read : made_from f p (textp r.0 ++ rest) ≡ Ok (f r.0, rest) = rw (lp.again r.0 rest r.2) refl in
+      sym (ap (λ (z : List ℕ). made_from f p (z ++ rest)) r.3) ∙ (read ∙ ap (λ (z : B). Ok (z, rest)) r.1);
   stable = λ bytes more. bind_stable more (p bytes) (p (bytes ++ more)) (λ x. Ok (f x.0, x.1)) (lp.stable bytes more) (λ x. inr refl);
 }
 

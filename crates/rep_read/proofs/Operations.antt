@@ -11,10 +11,10 @@ use Rattle.rep_op.specs.ClientIds.{IsClientId}
 use Rattle.rep_op.specs.declared.op.Put.{Put}
 use Rattle.rep_op.specs.declared.op.Op.{Op}
 use Rattle.rep_op.specs.declared.op.Op.TheVariants.{Session as OfSession, Put as OfPut, Ack, Retain as OfRetain}
-use Rattle.rep_read.specs.Reading.{Reader, both, by_first, ranged, octet_at, number_at, is_counted, client_at, topic_at, flag_at, qos_at, body_at, change_at, session_op_of, session_op_at, later_at, put_op_of, content_at, put_op_at, ack_of, range_at, ack_at, retain_op_of, retain_op_at, is_kind, of_kind_at, op_at}
+use Rattle.rep_read.specs.Reading.{Reader, both, by_first, ranged, octet_at, number_at, is_positive, client_id_at, topic_at, flag_at, qos_at, body_at, change_at, session_op_of, session_op_at, later_at, put_op_of, content_at, put_op_at, ack_from, range_at, ack_at, retain_op_of, retain_op_at, is_kind, of_kind_at, op_at}
 use Rattle.rep_op.specs.Spelling.{client_octets, later_octets, put_octets, retained_octets, op_octets}
 use Rattle.rep_op.specs.Sessions.{text_octets, flag_octet, change_octets}
-use Rattle.rep_op.specs.Values.{IsValue}
+use Rattle.rep_op.specs.Values.{IsOpValue}
 use Rattle.rep_op.specs.Versions.{needs_two}
 use Rattle.rep_op.specs.WellMade.{is_well_made}
 use Rattle.rep_op.specs.declared.version.Version.{Version}
@@ -32,7 +32,7 @@ can_say Two op = true
 -- what has a spelling of this version that is read again
 pub record FitsOp (version : Version) (op : Op) : Type 0 where
   pub made : IsTrue (is_well_made op)
-  pub value : IsValue op
+  pub value : IsOpValue op
   pub said : can_say version op ≡ true
 
 -- what does not need version 2 both versions can say
@@ -108,10 +108,10 @@ session_back v (OfSession c s i o) h =
 session_op_law : (v : Version) → Law session_op_at (tail_octets v) (FitsSessionOp v)
 unfolding session_op_at
 session_op_law v =
-    made_law session_op_of (both client_at (both (ranged is_counted (number_at w64)) (both (ranged is_counted octet_at) (by_first octet_at change_at)))) session_text FitsSessionParts
-    (both_law client_at client_octets IsClientId client_law
-    (both (ranged is_counted (number_at w64)) (both (ranged is_counted octet_at) (by_first octet_at change_at))) _ _ (both_law (ranged is_counted (number_at w64)) (to_be_bytes w64) IsEight eight_law
-    (both (ranged is_counted octet_at) (by_first octet_at change_at)) _ _ (both_law (ranged is_counted octet_at) one_octet IsOne one_law
+    made_law session_op_of (both client_id_at (both (ranged is_positive (number_at w64)) (both (ranged is_positive octet_at) (by_first octet_at change_at)))) session_text FitsSessionParts
+    (both_law client_id_at client_octets IsClientId client_law
+    (both (ranged is_positive (number_at w64)) (both (ranged is_positive octet_at) (by_first octet_at change_at))) _ _ (both_law (ranged is_positive (number_at w64)) (to_be_bytes w64) IsEight eight_law
+    (both (ranged is_positive octet_at) (by_first octet_at change_at)) _ _ (both_law (ranged is_positive octet_at) one_octet IsOne one_law
     (by_first octet_at change_at) (λ x. one_octet x.0 ++ change_octets x.1) (λ x. IsOctet x.0 × FitsChange x.0 x.1) (by_first_law octet_at one_octet IsOctet octet_law change_at (λ _. change_octets) FitsChange change_law))))
     (tail_octets v) (FitsSessionOp v) (session_over v) (session_back v)
 
@@ -209,10 +209,10 @@ put_back v (OfPut c p) h =
 put_op_law : (v : Version) → Law (put_op_at v) (tail_octets v) (FitsPutOp v)
 unfolding put_op_at content_at
 put_op_law v =
-    made_law put_op_of (both client_at (both (ranged is_counted octet_at) (both (ranged is_counted (number_at w64)) (both topic_at (both qos_at (both (later_at v) body_at)))))) (put_text v) (FitsPutParts v)
-    (both_law client_at client_octets IsClientId client_law
-    (both (ranged is_counted octet_at) (both (ranged is_counted (number_at w64)) (both topic_at (both qos_at (both (later_at v) body_at))))) _ _ (both_law (ranged is_counted octet_at) one_octet IsOne one_law
-    (both (ranged is_counted (number_at w64)) (both topic_at (both qos_at (both (later_at v) body_at)))) _ _ (both_law (ranged is_counted (number_at w64)) (to_be_bytes w64) IsEight eight_law
+    made_law put_op_of (both client_id_at (both (ranged is_positive octet_at) (both (ranged is_positive (number_at w64)) (both topic_at (both qos_at (both (later_at v) body_at)))))) (put_text v) (FitsPutParts v)
+    (both_law client_id_at client_octets IsClientId client_law
+    (both (ranged is_positive octet_at) (both (ranged is_positive (number_at w64)) (both topic_at (both qos_at (both (later_at v) body_at))))) _ _ (both_law (ranged is_positive octet_at) one_octet IsOne one_law
+    (both (ranged is_positive (number_at w64)) (both topic_at (both qos_at (both (later_at v) body_at)))) _ _ (both_law (ranged is_positive (number_at w64)) (to_be_bytes w64) IsEight eight_law
     (both topic_at (both qos_at (both (later_at v) body_at))) _ _ (both_law topic_at text_octets IsName topic_law
     (both qos_at (both (later_at v) body_at)) _ _ (both_law qos_at one_octet IsQos qos_law
     (both (later_at v) body_at) _ _ (both_law (later_at v) (later_text v) (FitsLater v) (later_law v)
@@ -230,8 +230,8 @@ FitsRange x = (IsEight x.0 × (x.1 < 2 ^ 64)) × (nat_le x.0 x.1 ≡ true)
 pub range_law : Law range_at range_text FitsRange
 unfolding range_at
 range_law =
-    ranged_law (λ x. nat_le x.0 x.1) (both (ranged is_counted (number_at w64)) (number_at w64)) range_text (λ x. IsEight x.0 × (x.1 < 2 ^ 64))
-    (both_law (ranged is_counted (number_at w64)) (to_be_bytes w64) IsEight eight_law (number_at w64) (to_be_bytes w64) (λ n. n < 2 ^ 64) (number_law w64 (2 ^ 64) wide64))
+    ranged_law (λ x. nat_le x.0 x.1) (both (ranged is_positive (number_at w64)) (number_at w64)) range_text (λ x. IsEight x.0 × (x.1 < 2 ^ 64))
+    (both_law (ranged is_positive (number_at w64)) (to_be_bytes w64) IsEight eight_law (number_at w64) (to_be_bytes w64) (λ n. n < 2 ^ 64) (number_law w64 (2 ^ 64) wide64))
 
 abbrev AckParts : Type 0
 AckParts = List ℕ × (ℕ × (ℕ × ℕ))
@@ -242,17 +242,17 @@ ack_text x = client_octets x.0 ++ (one_octet x.1.0 ++ range_text x.1.1)
 abbrev FitsAckParts : AckParts → Type 0
 FitsAckParts x = IsClientId x.0 × (IsOne x.1.0 × FitsRange x.1.1)
 
-ack_over : (v : Version) (x : AckParts) → FitsAckParts x → (ack_text x ≡ tail_octets v (ack_of x)) × FitsAck v (ack_of x)
+ack_over : (v : Version) (x : AckParts) → FitsAckParts x → (ack_text x ≡ tail_octets v (ack_from x)) × FitsAck v (ack_from x)
 ack_over v x h = (
   sym (append_assoc (client_octets x.0) (x.1.0 ∷ big_bytes 8 x.1.1.0) (big_bytes 8 x.1.1.1)),
   record {
     made = and_from _ _ (and_from _ _ h.1.0.1 h.1.1.0.0.1) h.1.1.1;
     value = (h.0, h.1.0.0, h.1.1.0.0.0, h.1.1.0.1);
-    said = both_say v (ack_of x) refl;
+    said = both_say v (ack_from x) refl;
   },
 )
 
-ack_back : (v : Version) (op : Op) → FitsAck v op → (x : AckParts) × (ack_of x ≡ op) × FitsAckParts x × (ack_text x ≡ tail_octets v op)
+ack_back : (v : Version) (op : Op) → FitsAck v op → (x : AckParts) × (ack_from x ≡ op) × FitsAckParts x × (ack_text x ≡ tail_octets v op)
 ack_back v (OfSession c s i o) h = absurd h
 ack_back v (OfPut c p) h = absurd h
 ack_back v (OfRetain t k) h = absurd h
@@ -267,8 +267,8 @@ ack_back v (Ack c r f l) h =
 ack_law : (v : Version) → Law ack_at (tail_octets v) (FitsAck v)
 unfolding ack_at
 ack_law v =
-    made_law ack_of (both client_at (both (ranged is_counted octet_at) range_at)) ack_text FitsAckParts
-    (both_law client_at client_octets IsClientId client_law (both (ranged is_counted octet_at) range_at) _ _ (both_law (ranged is_counted octet_at) one_octet IsOne one_law range_at range_text FitsRange range_law))
+    made_law ack_from (both client_id_at (both (ranged is_positive octet_at) range_at)) ack_text FitsAckParts
+    (both_law client_id_at client_octets IsClientId client_law (both (ranged is_positive octet_at) range_at) _ _ (both_law (ranged is_positive octet_at) one_octet IsOne one_law range_at range_text FitsRange range_law))
     (tail_octets v) (FitsAck v) (ack_over v) (ack_back v)
 
 -- ---- what is retained
@@ -309,10 +309,10 @@ retain_back (OfRetain t k) h =
 retain_op_law : Law retain_op_at (tail_octets Two) FitsRetain
 unfolding retain_op_at
 retain_op_law =
-    made_law retain_op_of (both topic_at (both (ranged is_counted (number_at w64)) (both (ranged is_counted octet_at) (both qos_at body_at)))) retain_text FitsRetainParts
+    made_law retain_op_of (both topic_at (both (ranged is_positive (number_at w64)) (both (ranged is_positive octet_at) (both qos_at body_at)))) retain_text FitsRetainParts
     (both_law topic_at text_octets IsName topic_law
-    (both (ranged is_counted (number_at w64)) (both (ranged is_counted octet_at) (both qos_at body_at))) _ _ (both_law (ranged is_counted (number_at w64)) (to_be_bytes w64) IsEight eight_law
-    (both (ranged is_counted octet_at) (both qos_at body_at)) _ _ (both_law (ranged is_counted octet_at) one_octet IsOne one_law
+    (both (ranged is_positive (number_at w64)) (both (ranged is_positive octet_at) (both qos_at body_at))) _ _ (both_law (ranged is_positive (number_at w64)) (to_be_bytes w64) IsEight eight_law
+    (both (ranged is_positive octet_at) (both qos_at body_at)) _ _ (both_law (ranged is_positive octet_at) one_octet IsOne one_law
     (both qos_at body_at) _ _ (both_law qos_at one_octet IsQos qos_law
     body_at text_octets (λ t. length t ≤ 4096) body_law))))
     (tail_octets Two) FitsRetain retain_over retain_back

@@ -19,8 +19,8 @@ use Rattle.sn_session.specs.declared.outbound.Outbound.{Outbound}
 use Rattle.sn_tables.specs.Levels.{is_qos}
 use Rattle.sn_topic.specs.Table.{is_topic_id}
 use Rattle.rep_op.specs.Ranges.{is_topic, is_subscription, is_will, is_will_topic, is_exchange, is_session}
-use Rattle.rep_read.specs.Reading.{both, made, ranged, octet_at, number_at, is_counted, topic_at, filter_at, body_at, flag_at, presence_at, phase_at, qos_at, entry_of, entry_at, subscription_of, subscription_at, will_topic_of, will_topic_at, will_of, will_at, exchange_of, exchange_at, topics_at, subscriptions_at, received_at, some_will_at, some_topic_at, some_exchange_at, Head, head_at, Parts, parts_at, session_of, session_at}
-use Rattle.rep_op.specs.Sessions.{text_octets, flag_octet, presence_octet, phase_octet, option_octets, table_octets, topic_octets, subscription_octets, will_topic_octets, will_octets, exchange_octets, session_octets}
+use Rattle.rep_read.specs.Reading.{both, made_from, ranged, octet_at, number_at, is_positive, topic_at, filter_at, body_at, flag_at, presence_at, phase_at, qos_at, topic_entry_from, entry_at, subscription_from, subscription_at, will_topic_of, will_topic_at, will_from, will_at, exchange_of, exchange_at, topics_at, subscriptions_at, received_at, some_will_at, some_topic_at, some_exchange_at, Head, head_at, SessionParts, parts_at, session_from, session_at}
+use Rattle.rep_op.specs.Sessions.{text_octets, flag_octet, presence_octet, phase_octet, option_octets, table_octets, topic_octets, subscription_octets, will_topic_octets, session_will_octets, exchange_octets, session_octets}
 use Rattle.rep_op.specs.Values.{IsEntryValue, IsSubscriptionValue, IsWillValue, IsWillTopicValue, IsExchangeValue, IsSessionValue}
 use Rattle.rep_read.proofs.Laws.{Law, both_law, made_law, ranged_law, octet_law, wide16, wide64, number_law}
 use Rattle.rep_read.proofs.Fields.{one_octet, IsOctet, topic_law, filter_law, body_law, flag_law, presence_law, phase_law, IsQos, qos_law}
@@ -29,25 +29,25 @@ use Rattle.rep_read.proofs.Tables.{FitsOption, option_law, FitsTable, table_law}
 -- ---- numbers from 1 on
 
 abbrev pub IsEight : ℕ → Type 0
-IsEight n = (n < 2 ^ 64) × (is_counted n ≡ true)
+IsEight n = (n < 2 ^ 64) × (is_positive n ≡ true)
 
-pub eight_law : Law (ranged is_counted (number_at w64)) (to_be_bytes w64) IsEight
-eight_law = ranged_law is_counted (number_at w64) (to_be_bytes w64) (λ n. n < 2 ^ 64) (number_law w64 (2 ^ 64) wide64)
+pub eight_law : Law (ranged is_positive (number_at w64)) (to_be_bytes w64) IsEight
+eight_law = ranged_law is_positive (number_at w64) (to_be_bytes w64) (λ n. n < 2 ^ 64) (number_law w64 (2 ^ 64) wide64)
 
 abbrev pub IsOne : ℕ → Type 0
-IsOne n = IsOctet n × (is_counted n ≡ true)
+IsOne n = IsOctet n × (is_positive n ≡ true)
 
-pub one_law : Law (ranged is_counted octet_at) one_octet IsOne
-one_law = ranged_law is_counted octet_at one_octet IsOctet octet_law
+pub one_law : Law (ranged is_positive octet_at) one_octet IsOne
+one_law = ranged_law is_positive octet_at one_octet IsOctet octet_law
 
 pub two_law : Law (number_at w16) (to_be_bytes w16) (λ n. n < 2 ^ 16)
 two_law = number_law w16 (2 ^ 16) wide16
 
 abbrev pub IsTwo : ℕ → Type 0
-IsTwo n = (n < 2 ^ 16) × (is_counted n ≡ true)
+IsTwo n = (n < 2 ^ 16) × (is_positive n ≡ true)
 
-pub counted_two_law : Law (ranged is_counted (number_at w16)) (to_be_bytes w16) IsTwo
-counted_two_law = ranged_law is_counted (number_at w16) (to_be_bytes w16) (λ n. n < 2 ^ 16) two_law
+pub counted_two_law : Law (ranged is_positive (number_at w16)) (to_be_bytes w16) IsTwo
+counted_two_law = ranged_law is_positive (number_at w16) (to_be_bytes w16) (λ n. n < 2 ^ 16) two_law
 
 abbrev pub IsId : ℕ → Type 0
 IsId n = (n < 2 ^ 16) × (is_topic_id n ≡ true)
@@ -66,7 +66,7 @@ FitsEntry e = IsId e.id × IsName e.name
 pub entry_law : Law entry_at topic_octets FitsEntry
 unfolding entry_at
 entry_law =
-    made_law entry_of (both (ranged is_topic_id (number_at w16)) (both flag_at topic_at)) _ _
+    made_law topic_entry_from (both (ranged is_topic_id (number_at w16)) (both flag_at topic_at)) _ _
     (both_law (ranged is_topic_id (number_at w16)) (to_be_bytes w16) IsId id_law (both flag_at topic_at) _ _ (both_law flag_at flag_text (λ b. Unit {0}) flag_law topic_at text_octets IsName topic_law))
     topic_octets FitsEntry (λ x h. (refl, (h.0, h.1.1))) (λ e h. ((e.id, (e.known, e.name)), refl, (h.0, (tt, h.1)), refl))
 
@@ -76,7 +76,7 @@ FitsSubscription s = IsFilter s.filter × IsQos s.qos
 pub subscription_law : Law subscription_at subscription_octets FitsSubscription
 unfolding subscription_at
 subscription_law =
-    made_law subscription_of (both filter_at qos_at) _ _ (both_law filter_at text_octets IsFilter filter_law qos_at one_octet IsQos qos_law)
+    made_law subscription_from (both filter_at qos_at) _ _ (both_law filter_at text_octets IsFilter filter_law qos_at one_octet IsQos qos_law)
     subscription_octets FitsSubscription (λ x h. (refl, h)) (λ s h. ((s.filter, s.qos), refl, h, refl))
 
 abbrev pub FitsWillTopic : WillTopic → Type 0
@@ -95,11 +95,11 @@ FitsWill w = (IsQos w.qos × IsName w.topic) × (length w.message ≤ 4096)
 abbrev topic_of_will : Will → WillTopic
 topic_of_will w = record { topic = w.topic; qos = w.qos; retain = w.retain }
 
-will_law : Law will_at will_octets FitsWill
+will_law : Law will_at session_will_octets FitsWill
 unfolding will_at
 will_law =
-    made_law will_of (both will_topic_at body_at) _ _ (both_law will_topic_at will_topic_octets FitsWillTopic will_topic_law body_at text_octets (λ t. length t ≤ 4096) body_law)
-    will_octets FitsWill (λ x h. (refl, h)) (λ w h. ((topic_of_will w, w.message), refl, h, refl))
+    made_law will_from (both will_topic_at body_at) _ _ (both_law will_topic_at will_topic_octets FitsWillTopic will_topic_law body_at text_octets (λ t. length t ≤ 4096) body_law)
+    session_will_octets FitsWill (λ x h. (refl, h)) (λ w h. ((topic_of_will w, w.message), refl, h, refl))
 
 abbrev pub FitsExchange : Outbound → Type 0
 FitsExchange x = IsOne x.origin × (IsEight x.seq × (x.msg_id < 2 ^ 16))
@@ -107,9 +107,9 @@ FitsExchange x = IsOne x.origin × (IsEight x.seq × (x.msg_id < 2 ^ 16))
 exchange_law : Law exchange_at exchange_octets FitsExchange
 unfolding exchange_at
 exchange_law =
-    made_law exchange_of (both (ranged is_counted octet_at) (both (ranged is_counted (number_at w64)) (both (number_at w16) phase_at))) _ _
-    (both_law (ranged is_counted octet_at) one_octet IsOne one_law
-    (both (ranged is_counted (number_at w64)) (both (number_at w16) phase_at)) _ _ (both_law (ranged is_counted (number_at w64)) (to_be_bytes w64) IsEight eight_law
+    made_law exchange_of (both (ranged is_positive octet_at) (both (ranged is_positive (number_at w64)) (both (number_at w16) phase_at))) _ _
+    (both_law (ranged is_positive octet_at) one_octet IsOne one_law
+    (both (ranged is_positive (number_at w64)) (both (number_at w16) phase_at)) _ _ (both_law (ranged is_positive (number_at w64)) (to_be_bytes w64) IsEight eight_law
     (both (number_at w16) phase_at) _ _ (both_law (number_at w16) (to_be_bytes w16) (λ n. n < 2 ^ 16) two_law phase_at (λ p. one_octet (phase_octet p)) (λ p. Unit {0}) phase_law)))
     exchange_octets FitsExchange (λ x h. (refl, (h.0, (h.1.0, h.1.1.0)))) (λ e h. ((e.origin, (e.seq, (e.msg_id, e.phase))), refl, (h.0, (h.1.0, (h.1.1, tt))), refl))
 
@@ -130,9 +130,9 @@ received_law : Law received_at (table_octets (big_bytes 2)) (FitsTable nat_cmp I
 unfolding received_at
 received_law = table_law nat_cmp (number_at w16) (to_be_bytes w16) IsShort two_law
 
-some_will_law : Law some_will_at (option_octets will_octets) (FitsOption FitsWill)
+some_will_law : Law some_will_at (option_octets session_will_octets) (FitsOption FitsWill)
 unfolding some_will_at
-some_will_law = option_law will_at will_octets FitsWill will_law
+some_will_law = option_law will_at session_will_octets FitsWill will_law
 
 pub some_topic_law : Law some_topic_at (option_octets will_topic_octets) (FitsOption FitsWillTopic)
 unfolding some_topic_at
@@ -152,14 +152,14 @@ head_law : Law head_at head_text FitsHead
 unfolding head_at
 head_law =
     both_law presence_at (λ p. one_octet (presence_octet p)) (λ p. Unit {0}) presence_law
-    (both flag_at (both (number_at w16) (ranged is_counted (number_at w16)))) _ _ (both_law flag_at flag_text (λ b. Unit {0}) flag_law
-    (both (number_at w16) (ranged is_counted (number_at w16))) _ _ (both_law (number_at w16) (to_be_bytes w16) IsShort two_law (ranged is_counted (number_at w16)) (to_be_bytes w16) IsTwo counted_two_law))
+    (both flag_at (both (number_at w16) (ranged is_positive (number_at w16)))) _ _ (both_law flag_at flag_text (λ b. Unit {0}) flag_law
+    (both (number_at w16) (ranged is_positive (number_at w16))) _ _ (both_law (number_at w16) (to_be_bytes w16) IsShort two_law (ranged is_positive (number_at w16)) (to_be_bytes w16) IsTwo counted_two_law))
 
-abbrev parts_text : Parts → List ℕ
+abbrev parts_text : SessionParts → List ℕ
 parts_text x =
-    table_octets topic_octets x.0 ++ (table_octets subscription_octets x.1.0 ++ (option_octets will_octets x.1.1.0 ++ (table_octets (big_bytes 2) x.1.1.1.0 ++ option_octets exchange_octets x.1.1.1.1)))
+    table_octets topic_octets x.0 ++ (table_octets subscription_octets x.1.0 ++ (option_octets session_will_octets x.1.1.0 ++ (table_octets (big_bytes 2) x.1.1.1.0 ++ option_octets exchange_octets x.1.1.1.1)))
 
-abbrev FitsParts : Parts → Type 0
+abbrev FitsParts : SessionParts → Type 0
 FitsParts x =
     FitsTable topic_cmp FitsEntry x.0 × (FitsTable subscription_cmp FitsSubscription x.1.0 × (FitsOption FitsWill x.1.1.0 × (FitsTable nat_cmp IsShort x.1.1.1.0 × FitsOption FitsExchange x.1.1.1.1)))
 
@@ -168,13 +168,13 @@ unfolding parts_at
 parts_law =
     both_law topics_at (table_octets topic_octets) (FitsTable topic_cmp FitsEntry) topics_law
     (both subscriptions_at (both some_will_at (both received_at some_exchange_at))) _ _ (both_law subscriptions_at (table_octets subscription_octets) (FitsTable subscription_cmp FitsSubscription) subscriptions_law
-    (both some_will_at (both received_at some_exchange_at)) _ _ (both_law some_will_at (option_octets will_octets) (FitsOption FitsWill) some_will_law
+    (both some_will_at (both received_at some_exchange_at)) _ _ (both_law some_will_at (option_octets session_will_octets) (FitsOption FitsWill) some_will_law
     (both received_at some_exchange_at) _ _ (both_law received_at (table_octets (big_bytes 2)) (FitsTable nat_cmp IsShort) received_law
     some_exchange_at (option_octets exchange_octets) (FitsOption FitsExchange) some_exchange_law)))
 
 -- ---- a session
 
-abbrev split : Session → Head × Parts
+abbrev split : Session → Head × SessionParts
 split s = ((s.presence, (s.clean, (s.duration, s.next_id))), (s.topics, (s.subscriptions, (s.will, (s.received, s.outbound)))))
 
 abbrev pub FitsSession : Session → Type 0
@@ -183,14 +183,14 @@ FitsSession s = FitsHead (split s).0 × FitsParts (split s).1
 regroup : (h a b c d e : List ℕ) → h ++ (a ++ (b ++ (c ++ (d ++ e)))) ≡ ((((h ++ a) ++ b) ++ c) ++ d) ++ e
 regroup h a b c d e = simp append_assoc
 
-session_text : (x : Head × Parts) → head_text x.0 ++ parts_text x.1 ≡ session_octets (session_of x)
+session_text : (x : Head × SessionParts) → head_text x.0 ++ parts_text x.1 ≡ session_octets (session_from x)
 session_text x =
-    regroup (head_text x.0) (table_octets topic_octets x.1.0) (table_octets subscription_octets x.1.1.0) (option_octets will_octets x.1.1.1.0) (table_octets (big_bytes 2) x.1.1.1.1.0) (option_octets exchange_octets x.1.1.1.1.1)
+    regroup (head_text x.0) (table_octets topic_octets x.1.0) (table_octets subscription_octets x.1.1.0) (option_octets session_will_octets x.1.1.1.0) (table_octets (big_bytes 2) x.1.1.1.1.0) (option_octets exchange_octets x.1.1.1.1.1)
 
 pub session_law : Law session_at session_octets FitsSession
 unfolding session_at
 session_law =
-    made_law session_of (both head_at parts_at) _ _ (both_law head_at head_text FitsHead head_law parts_at parts_text FitsParts parts_law)
+    made_law session_from (both head_at parts_at) _ _ (both_law head_at head_text FitsHead head_law parts_at parts_text FitsParts parts_law)
     session_octets FitsSession (λ x h. (session_text x, h)) (λ s h. (split s, refl, h, session_text (split s)))
 
 -- ---- what fits is in range and a value

@@ -71,8 +71,8 @@ abbrev pub by_first : {A B : Type 0} → Reader A → (A → Reader B) → Reade
 by_first first second bytes = first bytes >>= λ x. second x.0 x.1 >>= λ y. Ok ((x.0, y.0), y.1)
 
 -- a value made of what was read
-abbrev pub made : {A B : Type 0} → (A → B) → Reader A → Reader B
-made f read bytes = read bytes >>= λ x. Ok (f x.0, x.1)
+abbrev pub made_from : {A B : Type 0} → (A → B) → Reader A → Reader B
+made_from f read bytes = read bytes >>= λ x. Ok (f x.0, x.1)
 
 -- a value that is in range, looked at when it is whole
 abbrev pub ranged : {A : Type 0} → (A → Bool) → Reader A → Reader A
@@ -101,12 +101,12 @@ abbrev pub sized_at : (ℕ → Bool) → Reader ℕ → Reader (List ℕ)
 sized_at test size bytes = ranged test size bytes >>= λ x. octets_at x.0 x.1
 
 -- origins, gateways, epochs, sequence numbers and next message ids begin at 1
-abbrev pub is_counted : ℕ → Bool
-is_counted n = nat_le 1 n
+abbrev pub is_positive : ℕ → Bool
+is_positive n = nat_le 1 n
 
 -- a client: a size of one octet, 1 to 23, and its octets
-unfoldable pub client_at : Reader (List ℕ)
-client_at = sized_at (λ n. nat_le 1 n && nat_le n MAX_CLIENT_ID) octet_at
+unfoldable pub client_id_at : Reader (List ℕ)
+client_id_at = sized_at (λ n. nat_le 1 n && nat_le n MAX_CLIENT_ID) octet_at
 
 -- a topic name: a size of two octets, 1 to 256, and its octets, none of them a wildcard
 unfoldable pub topic_at : Reader (List ℕ)
@@ -122,7 +122,7 @@ body_at = sized_at (λ n. nat_le n MAX_MESSAGE) (number_at w16)
 
 -- a flag: one octet, 0 for no or 1 for yes
 unfoldable pub flag_at : Reader Bool
-flag_at = made (λ n. n == 1) (ranged (λ n. nat_le n 1) octet_at)
+flag_at = made_from (λ n. n == 1) (ranged (λ n. nat_le n 1) octet_at)
 
 -- the presence that an octet stands for: 0 Active, 1 Asleep, 2 Awake, 3 Disconnected, 4 Lost
 abbrev pub presence_of : ℕ → Presence
@@ -134,7 +134,7 @@ presence_of n =
 
 -- a presence: one octet, 0 to 4
 unfoldable pub presence_at : Reader Presence
-presence_at = made presence_of (ranged (λ n. nat_le n 4) octet_at)
+presence_at = made_from presence_of (ranged (λ n. nat_le n 4) octet_at)
 
 -- a part that may be there
 abbrev pub option_at : {A : Type 0} → Reader A → Reader (Option A)
@@ -171,29 +171,30 @@ unfoldable pub qos_at : Reader ℕ
 qos_at = ranged is_qos octet_at
 
 -- the phase of an exchange that an octet stands for: 0 Registering, 1 Published, 2 Released
-abbrev pub phase_of : ℕ → Phase
-phase_of n =
+abbrev pub phase_from : ℕ → Phase
+phase_from n =
     if n == 0 then phases.Registering else (if n == 1 then phases.Published else phases.Released)
 
 -- the phase of an exchange: one octet, 0 to 2
 unfoldable pub phase_at : Reader Phase
-phase_at = made phase_of (ranged (λ n. nat_le n 2) octet_at)
+phase_at = made_from phase_from (ranged (λ n. nat_le n 2) octet_at)
 
 -- a topic entry of its id, whether the client knows it, and its name
-abbrev pub entry_of : ℕ × (Bool × List ℕ) → TopicEntry
-entry_of x = record { id = x.0; name = x.1.1; known = x.1.0 }
+abbrev pub topic_entry_from : ℕ × (Bool × List ℕ) → TopicEntry
+topic_entry_from x = record { id = x.0; name = x.1.1; known = x.1.0 }
 
 -- a topic entry: an id of two octets, a flag, a name
 unfoldable pub entry_at : Reader TopicEntry
-entry_at = made entry_of (both (ranged is_topic_id (number_at w16)) (both flag_at topic_at))
+entry_at =
+    made_from topic_entry_from (both (ranged is_topic_id (number_at w16)) (both flag_at topic_at))
 
 -- a subscription of its filter and quality of service
-abbrev pub subscription_of : List ℕ × ℕ → Subscription
-subscription_of x = record { filter = x.0; qos = x.1 }
+abbrev pub subscription_from : List ℕ × ℕ → Subscription
+subscription_from x = record { filter = x.0; qos = x.1 }
 
 -- a subscription: a filter, and a quality of service
 unfoldable pub subscription_at : Reader Subscription
-subscription_at = made subscription_of (both filter_at qos_at)
+subscription_at = made_from subscription_from (both filter_at qos_at)
 
 -- the topic of a will, of its quality of service, whether it is retained, and its name
 abbrev pub will_topic_of : ℕ × (Bool × List ℕ) → WillTopic
@@ -201,15 +202,15 @@ will_topic_of x = record { topic = x.1.1; qos = x.0; retain = x.1.0 }
 
 -- the topic of a will: a quality of service, a flag for retained, a name
 unfoldable pub will_topic_at : Reader WillTopic
-will_topic_at = made will_topic_of (both qos_at (both flag_at topic_at))
+will_topic_at = made_from will_topic_of (both qos_at (both flag_at topic_at))
 
 -- a will of its topic and its message
-abbrev pub will_of : WillTopic × List ℕ → Will
-will_of x = record { topic = x.0.topic; qos = x.0.qos; retain = x.0.retain; message = x.1 }
+abbrev pub will_from : WillTopic × List ℕ → Will
+will_from x = record { topic = x.0.topic; qos = x.0.qos; retain = x.0.retain; message = x.1 }
 
 -- a will: its topic, then its message
 unfoldable pub will_at : Reader Will
-will_at = made will_of (both will_topic_at body_at)
+will_at = made_from will_from (both will_topic_at body_at)
 
 -- an exchange of the message's origin and sequence number, its message id and its phase
 abbrev pub exchange_of : ℕ × (ℕ × (ℕ × Phase)) → Outbound
@@ -218,8 +219,8 @@ exchange_of x = record { origin = x.0; seq = x.1.0; msg_id = x.1.1.0; phase = x.
 -- an exchange: an origin of one octet, a sequence number of eight, a message id of two, a phase
 unfoldable pub exchange_at : Reader Outbound
 exchange_at =
-    made exchange_of (both (ranged is_counted octet_at)
-    (both (ranged is_counted (number_at w64)) (both (number_at w16) phase_at)))
+    made_from exchange_of (both (ranged is_positive octet_at)
+    (both (ranged is_positive (number_at w64)) (both (number_at w16) phase_at)))
 
 -- the topic entries of a session, ascending by id
 unfoldable pub topics_at : Reader (List TopicEntry)
@@ -252,20 +253,21 @@ Head = Presence × (Bool × (ℕ × ℕ))
 -- the first part of a session: a presence, a flag, two octets of duration, and two of an id that is
 -- not 0
 unfoldable pub head_at : Reader Head
-head_at = both presence_at (both flag_at (both (number_at w16) (ranged is_counted (number_at w16))))
+head_at =
+    both presence_at (both flag_at (both (number_at w16) (ranged is_positive (number_at w16))))
 
 -- topic ids, subscriptions, will, received message ids, exchange
-abbrev pub Parts : Type 0
-Parts = List TopicEntry × (List Subscription × (Option Will × (List ℕ × Option Outbound)))
+abbrev pub SessionParts : Type 0
+SessionParts = List TopicEntry × (List Subscription × (Option Will × (List ℕ × Option Outbound)))
 
 -- the tables of a session, its will and its exchange
-unfoldable pub parts_at : Reader Parts
+unfoldable pub parts_at : Reader SessionParts
 parts_at =
     both topics_at (both subscriptions_at (both some_will_at (both received_at some_exchange_at)))
 
 -- a session of its two parts
-abbrev pub session_of : Head × Parts → Session
-session_of x = record {
+abbrev pub session_from : Head × SessionParts → Session
+session_from x = record {
   presence = x.0.0;
   clean = x.0.1.0;
   duration = x.0.1.1.0;
@@ -279,31 +281,33 @@ session_of x = record {
 
 -- a session: the values of fixed size, then the tables, the will and the exchange
 unfoldable pub session_at : Reader Session
-session_at = made session_of (both head_at parts_at)
+session_at = made_from session_from (both head_at parts_at)
 
 -- the change of a presence: the presence, and a duration of two octets
 unfoldable pub set_presence_at : Reader SessionOp
-set_presence_at = made (λ x. SetPresence x.0 x.1) (both presence_at (number_at w16))
+set_presence_at = made_from (λ x. SetPresence x.0 x.1) (both presence_at (number_at w16))
 
 -- the change of an exchange: the next message id, then the exchange, if there is one
 unfoldable pub set_outbound_at : Reader SessionOp
 set_outbound_at =
-    made (λ x. SetOutbound x.1 x.0) (both (ranged is_counted (number_at w16)) some_exchange_at)
+    made_from (λ x. SetOutbound x.1 x.0)
+    (both (ranged is_positive (number_at w16)) some_exchange_at)
 
 -- the fields of a change, by its tag
 abbrev pub fields_at : ℕ → Reader SessionOp
 fields_at tag bytes =
-    if tag == 0 then made (λ session. Take session) session_at bytes else (
+    if tag == 0 then made_from (λ session. Take session) session_at bytes else (
     if tag == 1 then set_presence_at bytes else (
-    if tag == 2 then made (λ entry. Register entry.id entry.name entry.known) entry_at bytes else (
-    if tag == 3
-    then made (λ subscription. Subscribe subscription.filter subscription.qos) subscription_at bytes
+    if tag == 2 then made_from (λ entry. Register entry.id entry.name entry.known) entry_at bytes
     else (
-    if tag == 4 then made (λ asked. Unsubscribe asked) filter_at bytes else (
-    if tag == 5 then made (λ asked. SetWillTopic asked) some_topic_at bytes else (
-    if tag == 6 then made (λ message. WillMsg message) body_at bytes else (
-    if tag == 7 then made (λ id. Received id) (number_at w16) bytes else (
-    if tag == 8 then made (λ id. Released id) (number_at w16) bytes
+    if tag == 3
+    then made_from (λ subscription. Subscribe subscription.filter subscription.qos) subscription_at bytes
+    else (
+    if tag == 4 then made_from (λ asked. Unsubscribe asked) filter_at bytes else (
+    if tag == 5 then made_from (λ asked. SetWillTopic asked) some_topic_at bytes else (
+    if tag == 6 then made_from (λ message. WillMsg message) body_at bytes else (
+    if tag == 7 then made_from (λ id. Received id) (number_at w16) bytes else (
+    if tag == 8 then made_from (λ id. Released id) (number_at w16) bytes
     else set_outbound_at bytes))))))))
 
 -- a change with counter 0 has tag 0, a Take; every other has a tag of 1 to 9
@@ -323,9 +327,9 @@ session_op_of x = OfSession x.0 (record { epoch = x.1.0; gateway = x.1.1.0 }) x.
 -- a session operation: client, epoch, gateway, counter, change
 unfoldable pub session_op_at : Reader Op
 session_op_at =
-    made session_op_of (both client_at
-    (both (ranged is_counted (number_at w64))
-    (both (ranged is_counted octet_at) (by_first octet_at change_at))))
+    made_from session_op_of (both client_id_at
+    (both (ranged is_positive (number_at w64))
+    (both (ranged is_positive octet_at) (by_first octet_at change_at))))
 
 -- whether a message was retained, and when it expires, in eight octets; version 1 says no and never
 -- of each
@@ -354,22 +358,22 @@ content_at version = both qos_at (both (later_at version) body_at)
 -- a message: client, origin, sequence number, topic, content
 unfoldable pub put_op_at : Version → Reader Op
 put_op_at version =
-    made put_op_of (both client_at
-    (both (ranged is_counted octet_at)
-    (both (ranged is_counted (number_at w64))
+    made_from put_op_of (both client_id_at
+    (both (ranged is_positive octet_at)
+    (both (ranged is_positive (number_at w64))
     (both topic_at (content_at version)))))
 
 -- a range of acknowledgements of its client, origin, first and last sequence number
-abbrev pub ack_of : List ℕ × (ℕ × (ℕ × ℕ)) → Op
-ack_of x = Ack x.0 x.1.0 x.1.1.0 x.1.1.1
+abbrev pub ack_from : List ℕ × (ℕ × (ℕ × ℕ)) → Op
+ack_from x = Ack x.0 x.1.0 x.1.1.0 x.1.1.1
 
 -- a range does not end before it begins
 unfoldable pub range_at : Reader (ℕ × ℕ)
-range_at = ranged (λ x. nat_le x.0 x.1) (both (ranged is_counted (number_at w64)) (number_at w64))
+range_at = ranged (λ x. nat_le x.0 x.1) (both (ranged is_positive (number_at w64)) (number_at w64))
 
 -- a range of acknowledgements: client, origin, first and last sequence number
 unfoldable pub ack_at : Reader Op
-ack_at = made ack_of (both client_at (both (ranged is_counted octet_at) range_at))
+ack_at = made_from ack_from (both client_id_at (both (ranged is_positive octet_at) range_at))
 
 -- what is retained, of its topic, clock, gateway, quality of service and octets
 abbrev pub retain_op_of : List ℕ × (ℕ × (ℕ × (ℕ × List ℕ))) → Op
@@ -384,9 +388,9 @@ retain_op_of x =
 -- what is retained: topic, clock, gateway, quality of service, octets
 unfoldable pub retain_op_at : Reader Op
 retain_op_at =
-    made retain_op_of (both topic_at
-    (both (ranged is_counted (number_at w64))
-    (both (ranged is_counted octet_at) (both qos_at body_at))))
+    made_from retain_op_of (both topic_at
+    (both (ranged is_positive (number_at w64))
+    (both (ranged is_positive octet_at) (both qos_at body_at))))
 
 -- an operation, by its kind
 abbrev pub of_kind_at : Version → ℕ → Reader Op
@@ -417,6 +421,6 @@ Fails faults.Memory read = Unit {0}
 Fails fault read = read ≡ Err fault
 
 -- a result is what reading gives, seen by a view, unless memory ran out
-abbrev pub Gives : {X Y : Type 0} → (X → Y) → Result X OpsFault → Result Y OpsFault → Type 0
-Gives view (Ok x) read = read ≡ Ok (view x)
-Gives view (Err fault) read = Fails fault read
+abbrev pub ReadsAs : {X Y : Type 0} → (X → Y) → Result X OpsFault → Result Y OpsFault → Type 0
+ReadsAs view (Ok x) read = read ≡ Ok (view x)
+ReadsAs view (Err fault) read = Fails fault read

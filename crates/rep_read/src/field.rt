@@ -3,7 +3,7 @@
 ghost use Rattle.std.specs.Prelude.{◌≡◌};
 ghost use Rattle.std.specs.Int.{w16, w32, w64};
 ghost use Rattle.sn_topic.specs.Table as topics;
-ghost use Rattle.rep_read.specs.Reading.{Gives, octet_at, octets_at, number_at, ranged, client_at, topic_at, body_at};
+ghost use Rattle.rep_read.specs.Reading.{ReadsAs, octet_at, octets_at, number_at, ranged, client_id_at, topic_at, body_at};
 ghost use Rattle.rep_read.specs.Reading as spec;
 
 use octets::{MAX_CLIENT_ID, Octets, read_u16, read_u32, read_u64};
@@ -14,7 +14,7 @@ use std::alloc::Global;
 
 /// An octet.
 pub fn read_octet(bytes: &[u8]) -> Result<(u8, &[u8]), OpsFault>
-    ensures { Gives (λ x. (x.0, x.1.now)) result (octet_at bytes.now) }
+    ensures { ReadsAs (λ x. (x.0, x.1.now)) result (octet_at bytes.now) }
 {
     match bytes {
         [] => Err(OpsFault::Truncated),
@@ -24,7 +24,7 @@ pub fn read_octet(bytes: &[u8]) -> Result<(u8, &[u8]), OpsFault>
 
 /// An octet that is not 0.
 pub fn read_counted_octet(bytes: &[u8]) -> Result<(u8, &[u8]), OpsFault>
-    ensures { Gives (λ x. (x.0, x.1.now)) result (ranged spec.is_counted octet_at bytes.now) }
+    ensures { ReadsAs (λ x. (x.0, x.1.now)) result (ranged spec.is_positive octet_at bytes.now) }
 {
     let (octet, rest) = read_octet(bytes)?;
     if octet == 0 {
@@ -35,7 +35,7 @@ pub fn read_counted_octet(bytes: &[u8]) -> Result<(u8, &[u8]), OpsFault>
 
 /// So many octets.
 pub fn read_octets(count: usize, bytes: &[u8]) -> Result<(&[u8], &[u8]), OpsFault>
-    ensures { Gives (λ x. (x.0.now, x.1.now)) result (octets_at count bytes.now) }
+    ensures { ReadsAs (λ x. (x.0.now, x.1.now)) result (octets_at count bytes.now) }
 {
     if bytes.len() < count {
         return Err(OpsFault::Truncated);
@@ -45,7 +45,7 @@ pub fn read_octets(count: usize, bytes: &[u8]) -> Result<(&[u8], &[u8]), OpsFaul
 
 /// A number of two octets.
 pub fn read_two(bytes: &[u8]) -> Result<(u16, &[u8]), OpsFault>
-    ensures { Gives (λ x. (x.0, x.1.now)) result (number_at w16 bytes.now) }
+    ensures { ReadsAs (λ x. (x.0, x.1.now)) result (number_at w16 bytes.now) }
 {
     match read_u16(bytes) {
         None => Err(OpsFault::Truncated),
@@ -55,7 +55,7 @@ pub fn read_two(bytes: &[u8]) -> Result<(u16, &[u8]), OpsFault>
 
 /// A number of four octets.
 pub fn read_four(bytes: &[u8]) -> Result<(u32, &[u8]), OpsFault>
-    ensures { Gives (λ x. (x.0, x.1.now)) result (number_at w32 bytes.now) }
+    ensures { ReadsAs (λ x. (x.0, x.1.now)) result (number_at w32 bytes.now) }
 {
     match read_u32(bytes) {
         None => Err(OpsFault::Truncated),
@@ -65,7 +65,7 @@ pub fn read_four(bytes: &[u8]) -> Result<(u32, &[u8]), OpsFault>
 
 /// A number of eight octets.
 pub fn read_eight(bytes: &[u8]) -> Result<(u64, &[u8]), OpsFault>
-    ensures { Gives (λ x. (x.0, x.1.now)) result (number_at w64 bytes.now) }
+    ensures { ReadsAs (λ x. (x.0, x.1.now)) result (number_at w64 bytes.now) }
 {
     match read_u64(bytes) {
         None => Err(OpsFault::Truncated),
@@ -75,8 +75,8 @@ pub fn read_eight(bytes: &[u8]) -> Result<(u64, &[u8]), OpsFault>
 
 /// A number of two octets that is not 0.
 pub fn read_counted_two(bytes: &[u8]) -> Result<(u16, &[u8]), OpsFault>
-    ensures { Gives (λ x. (x.0, x.1.now)) result
-        (ranged spec.is_counted (number_at w16) bytes.now) }
+    ensures { ReadsAs (λ x. (x.0, x.1.now)) result
+        (ranged spec.is_positive (number_at w16) bytes.now) }
 {
     let (number, rest) = read_two(bytes)?;
     if number == 0 {
@@ -87,7 +87,7 @@ pub fn read_counted_two(bytes: &[u8]) -> Result<(u16, &[u8]), OpsFault>
 
 /// A topic id that is not reserved.
 pub fn read_topic_id(bytes: &[u8]) -> Result<(u16, &[u8]), OpsFault>
-    ensures { Gives (λ x. (x.0, x.1.now)) result
+    ensures { ReadsAs (λ x. (x.0, x.1.now)) result
         (ranged topics.is_topic_id (number_at w16) bytes.now) }
 {
     let (id, rest) = read_two(bytes)?;
@@ -99,8 +99,8 @@ pub fn read_topic_id(bytes: &[u8]) -> Result<(u16, &[u8]), OpsFault>
 
 /// A number of eight octets that is not 0.
 pub fn read_counted_eight(bytes: &[u8]) -> Result<(u64, &[u8]), OpsFault>
-    ensures { Gives (λ x. (x.0, x.1.now)) result
-        (ranged spec.is_counted (number_at w64) bytes.now) }
+    ensures { ReadsAs (λ x. (x.0, x.1.now)) result
+        (ranged spec.is_positive (number_at w64) bytes.now) }
 {
     let (number, rest) = read_eight(bytes)?;
     if number == 0 {
@@ -110,9 +110,9 @@ pub fn read_counted_eight(bytes: &[u8]) -> Result<(u64, &[u8]), OpsFault>
 }
 
 /// A client.
-#[tactic(auto, unfolding(crate::specs::Reading::client_at))]
+#[tactic(auto, unfolding(crate::specs::Reading::client_id_at))]
 pub fn read_client(alloc: Global, bytes: &[u8]) -> Result<(ClientId, &[u8]), OpsFault>
-    ensures { Gives (λ x. (x.0, x.1.now)) result (client_at bytes.now) }
+    ensures { ReadsAs (λ x. (x.0, x.1.now)) result (client_id_at bytes.now) }
 {
     let (size, rest) = read_octet(bytes)?;
     if size == 0 || size as usize > MAX_CLIENT_ID {
@@ -125,7 +125,7 @@ pub fn read_client(alloc: Global, bytes: &[u8]) -> Result<(ClientId, &[u8]), Ops
 /// A topic name.
 #[tactic(auto, unfolding(crate::specs::Reading::topic_at))]
 pub fn read_topic(alloc: Global, bytes: &[u8]) -> Result<(TopicName, &[u8]), OpsFault>
-    ensures { Gives (λ x. (x.0, x.1.now)) result (topic_at bytes.now) }
+    ensures { ReadsAs (λ x. (x.0, x.1.now)) result (topic_at bytes.now) }
 {
     let (size, rest) = read_two(bytes)?;
     if size == 0 || size as usize > MAX_TOPIC {
@@ -138,7 +138,7 @@ pub fn read_topic(alloc: Global, bytes: &[u8]) -> Result<(TopicName, &[u8]), Ops
 /// A message.
 #[tactic(auto, unfolding(crate::specs::Reading::body_at))]
 pub fn read_body(alloc: Global, bytes: &[u8]) -> Result<(Message, &[u8]), OpsFault>
-    ensures { Gives (λ x. (x.0, x.1.now)) result (body_at bytes.now) }
+    ensures { ReadsAs (λ x. (x.0, x.1.now)) result (body_at bytes.now) }
 {
     let (size, rest) = read_two(bytes)?;
     if size as usize > MAX_MESSAGE {

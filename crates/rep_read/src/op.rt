@@ -1,7 +1,7 @@
 //! Operations.
 
 ghost use Rattle.std.specs.Prelude.{◌≡◌, nat_le};
-ghost use Rattle.rep_read.specs.Reading.{Gives, session_op_at, later_at, content_at, put_op_at, range_at, ack_at, retain_op_at, last_kind, op_at};
+ghost use Rattle.rep_read.specs.Reading.{ReadsAs, session_op_at, later_at, content_at, put_op_at, range_at, ack_at, retain_op_at, last_kind, op_at};
 
 use super::field::{
     read_body, read_client, read_counted_eight, read_counted_octet, read_eight, read_octet,
@@ -17,7 +17,7 @@ use std::alloc::Global;
 /// The session operation after its kind.
 #[tactic(auto, unfolding(crate::specs::Reading::session_op_at))]
 fn read_session_op(alloc: Global, bytes: &[u8]) -> Result<(Op, &[u8]), OpsFault>
-    ensures { Gives (λ x. (x.0, x.1.now)) result (session_op_at bytes.now) }
+    ensures { ReadsAs (λ x. (x.0, x.1.now)) result (session_op_at bytes.now) }
 {
     let (client, rest) = read_client(alloc, bytes)?;
     let (epoch, rest) = read_counted_eight(rest)?;
@@ -36,7 +36,7 @@ fn read_session_op(alloc: Global, bytes: &[u8]) -> Result<(Op, &[u8]), OpsFault>
 /// Whether a message was retained, and when it expires, as far as the version says it.
 #[tactic(auto, unfolding(crate::specs::Reading::later_at))]
 fn read_later(version: Version, bytes: &[u8]) -> Result<((bool, u64), &[u8]), OpsFault>
-    ensures { Gives (λ x. (x.0, x.1.now)) result (later_at version bytes.now) }
+    ensures { ReadsAs (λ x. (x.0, x.1.now)) result (later_at version bytes.now) }
 {
     match version {
         Version::One => Ok(((false, 0), bytes)),
@@ -54,7 +54,7 @@ type Content = (QosLevel, (bool, u64), Message);
 /// What stands after the topic of a message.
 #[tactic(auto, unfolding(crate::specs::Reading::content_at, crate::specs::Reading::qos_at))]
 fn read_content(alloc: Global, version: Version, bytes: &[u8]) -> Result<(Content, &[u8]), OpsFault>
-    ensures { Gives (λ x. ((x.0.0, (x.0.1, x.0.2)), x.1.now)) result
+    ensures { ReadsAs (λ x. ((x.0.0, (x.0.1, x.0.2)), x.1.now)) result
         (content_at version bytes.now) }
 {
     let (number, rest) = read_octet(bytes)?;
@@ -67,7 +67,7 @@ fn read_content(alloc: Global, version: Version, bytes: &[u8]) -> Result<(Conten
 /// The put after its kind.
 #[tactic(auto, unfolding(crate::specs::Reading::put_op_at))]
 fn read_put(alloc: Global, version: Version, bytes: &[u8]) -> Result<(Op, &[u8]), OpsFault>
-    ensures { Gives (λ x. (x.0, x.1.now)) result (put_op_at version bytes.now) }
+    ensures { ReadsAs (λ x. (x.0, x.1.now)) result (put_op_at version bytes.now) }
 {
     let (client, rest) = read_client(alloc, bytes)?;
     let (origin, rest) = read_counted_octet(rest)?;
@@ -89,7 +89,7 @@ fn read_put(alloc: Global, version: Version, bytes: &[u8]) -> Result<(Op, &[u8])
 /// The first and the last of a range.
 #[tactic(auto, unfolding(crate::specs::Reading::range_at))]
 fn read_range(bytes: &[u8]) -> Result<((u64, u64), &[u8]), OpsFault>
-    ensures { Gives (λ x. (x.0, x.1.now)) result (range_at bytes.now) }
+    ensures { ReadsAs (λ x. (x.0, x.1.now)) result (range_at bytes.now) }
 {
     let (first, rest) = read_counted_eight(bytes)?;
     let (last, rest) = read_eight(rest)?;
@@ -102,7 +102,7 @@ fn read_range(bytes: &[u8]) -> Result<((u64, u64), &[u8]), OpsFault>
 /// The acknowledgements after their kind.
 #[tactic(auto, unfolding(crate::specs::Reading::ack_at))]
 fn read_ack(alloc: Global, bytes: &[u8]) -> Result<(Op, &[u8]), OpsFault>
-    ensures { Gives (λ x. (x.0, x.1.now)) result (ack_at bytes.now) }
+    ensures { ReadsAs (λ x. (x.0, x.1.now)) result (ack_at bytes.now) }
 {
     let (client, rest) = read_client(alloc, bytes)?;
     let (origin, rest) = read_counted_octet(rest)?;
@@ -119,7 +119,7 @@ fn read_ack(alloc: Global, bytes: &[u8]) -> Result<(Op, &[u8]), OpsFault>
 /// What is retained, after its kind.
 #[tactic(auto, unfolding(crate::specs::Reading::retain_op_at, crate::specs::Reading::qos_at))]
 fn read_retain(alloc: Global, bytes: &[u8]) -> Result<(Op, &[u8]), OpsFault>
-    ensures { Gives (λ x. (x.0, x.1.now)) result (retain_op_at bytes.now) }
+    ensures { ReadsAs (λ x. (x.0, x.1.now)) result (retain_op_at bytes.now) }
 {
     let (topic, rest) = read_topic(alloc, bytes)?;
     let (clock, rest) = read_counted_eight(rest)?;
@@ -149,7 +149,7 @@ fn knows_four(version: Version) -> bool
 /// An operation of a text of this version.
 #[tactic(auto, unfolding(crate::specs::Reading::op_at))]
 pub fn read_op(alloc: Global, version: Version, bytes: &[u8]) -> Result<(Op, &[u8]), OpsFault>
-    ensures { Gives (λ x. (x.0, x.1.now)) result (op_at version bytes.now) }
+    ensures { ReadsAs (λ x. (x.0, x.1.now)) result (op_at version bytes.now) }
 {
     let (kind, rest) = read_octet(bytes)?;
     match kind {

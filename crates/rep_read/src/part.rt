@@ -2,7 +2,7 @@
 
 ghost use Rattle.std.specs.Prelude.{◌≡◌, true, false, IfOk, IfErr};
 ghost use Rattle.sn_tables.specs.Levels.{is_qos};
-ghost use Rattle.rep_read.specs.Reading.{Gives, flag_at, presence_at, phase_at, filter_at, entry_at, subscription_at, will_topic_at, will_at, exchange_at, some_will_at, some_topic_at, some_exchange_at};
+ghost use Rattle.rep_read.specs.Reading.{ReadsAs, flag_at, presence_at, phase_at, filter_at, entry_at, subscription_at, will_topic_at, will_at, exchange_at, some_will_at, some_topic_at, some_exchange_at};
 
 use super::field::{
     read_body, read_counted_eight, read_counted_octet, read_octet, read_octets, read_topic,
@@ -17,7 +17,7 @@ use std::alloc::Global;
 /// A flag, 0 or 1.
 #[tactic(auto, unfolding(crate::specs::Reading::flag_at))]
 pub fn read_flag(bytes: &[u8]) -> Result<(bool, &[u8]), OpsFault>
-    ensures { Gives (λ x. (x.0, x.1.now)) result (flag_at bytes.now) }
+    ensures { ReadsAs (λ x. (x.0, x.1.now)) result (flag_at bytes.now) }
 {
     let (octet, rest) = read_octet(bytes)?;
     match octet {
@@ -30,7 +30,7 @@ pub fn read_flag(bytes: &[u8]) -> Result<(bool, &[u8]), OpsFault>
 /// A presence.
 #[tactic(auto, unfolding(crate::specs::Reading::presence_at))]
 pub fn read_presence(bytes: &[u8]) -> Result<(Presence, &[u8]), OpsFault>
-    ensures { Gives (λ x. (x.0, x.1.now)) result (presence_at bytes.now) }
+    ensures { ReadsAs (λ x. (x.0, x.1.now)) result (presence_at bytes.now) }
 {
     let (octet, rest) = read_octet(bytes)?;
     match octet {
@@ -46,7 +46,7 @@ pub fn read_presence(bytes: &[u8]) -> Result<(Presence, &[u8]), OpsFault>
 /// A phase.
 #[tactic(auto, unfolding(crate::specs::Reading::phase_at))]
 fn read_phase(bytes: &[u8]) -> Result<(Phase, &[u8]), OpsFault>
-    ensures { Gives (λ x. (x.0, x.1.now)) result (phase_at bytes.now) }
+    ensures { ReadsAs (λ x. (x.0, x.1.now)) result (phase_at bytes.now) }
 {
     let (octet, rest) = read_octet(bytes)?;
     match octet {
@@ -60,7 +60,7 @@ fn read_phase(bytes: &[u8]) -> Result<(Phase, &[u8]), OpsFault>
 /// A filter.
 #[tactic(auto, unfolding(crate::specs::Reading::filter_at))]
 pub fn read_filter(alloc: Global, bytes: &[u8]) -> Result<(Filter, &[u8]), OpsFault>
-    ensures { Gives (λ x. (x.0, x.1.now)) result (filter_at bytes.now) }
+    ensures { ReadsAs (λ x. (x.0, x.1.now)) result (filter_at bytes.now) }
 {
     let (size, rest) = read_two(bytes)?;
     if size == 0 || size as usize > MAX_TOPIC {
@@ -84,7 +84,7 @@ pub fn level_of(number: u8) -> Result<QosLevel, OpsFault>
 /// A topic id and its name.
 #[tactic(auto, unfolding(crate::specs::Reading::entry_at))]
 pub fn read_entry(alloc: Global, bytes: &[u8]) -> Result<(TopicEntry, &[u8]), OpsFault>
-    ensures { Gives (λ x. (x.0, x.1.now)) result (entry_at bytes.now) }
+    ensures { ReadsAs (λ x. (x.0, x.1.now)) result (entry_at bytes.now) }
 {
     let (id, rest) = read_topic_id(bytes)?;
     let (known, rest) = read_flag(rest)?;
@@ -95,7 +95,7 @@ pub fn read_entry(alloc: Global, bytes: &[u8]) -> Result<(TopicEntry, &[u8]), Op
 /// A subscription.
 #[tactic(auto, unfolding(crate::specs::Reading::subscription_at, crate::specs::Reading::qos_at))]
 pub fn read_subscription(alloc: Global, bytes: &[u8]) -> Result<(Subscription, &[u8]), OpsFault>
-    ensures { Gives (λ x. (x.0, x.1.now)) result (subscription_at bytes.now) }
+    ensures { ReadsAs (λ x. (x.0, x.1.now)) result (subscription_at bytes.now) }
 {
     let (filter, rest) = read_filter(alloc, bytes)?;
     let (number, rest) = read_octet(rest)?;
@@ -106,7 +106,7 @@ pub fn read_subscription(alloc: Global, bytes: &[u8]) -> Result<(Subscription, &
 /// A will's topic.
 #[tactic(auto, unfolding(crate::specs::Reading::will_topic_at, crate::specs::Reading::qos_at))]
 fn read_will_topic(alloc: Global, bytes: &[u8]) -> Result<(WillTopic, &[u8]), OpsFault>
-    ensures { Gives (λ x. (x.0, x.1.now)) result (will_topic_at bytes.now) }
+    ensures { ReadsAs (λ x. (x.0, x.1.now)) result (will_topic_at bytes.now) }
 {
     let (number, rest) = read_octet(bytes)?;
     let qos = level_of(number)?;
@@ -119,7 +119,7 @@ fn read_will_topic(alloc: Global, bytes: &[u8]) -> Result<(WillTopic, &[u8]), Op
 /// A will.
 #[tactic(auto, unfolding(crate::specs::Reading::will_at))]
 fn read_will(alloc: Global, bytes: &[u8]) -> Result<(Will, &[u8]), OpsFault>
-    ensures { Gives (λ x. (x.0, x.1.now)) result (will_at bytes.now) }
+    ensures { ReadsAs (λ x. (x.0, x.1.now)) result (will_at bytes.now) }
 {
     let (asked, rest) = read_will_topic(alloc, bytes)?;
     let (message, rest) = read_body(alloc, rest)?;
@@ -135,7 +135,7 @@ fn read_will(alloc: Global, bytes: &[u8]) -> Result<(Will, &[u8]), OpsFault>
 /// An exchange.
 #[tactic(auto, unfolding(crate::specs::Reading::exchange_at))]
 fn read_exchange(bytes: &[u8]) -> Result<(Outbound, &[u8]), OpsFault>
-    ensures { Gives (λ x. (x.0, x.1.now)) result (exchange_at bytes.now) }
+    ensures { ReadsAs (λ x. (x.0, x.1.now)) result (exchange_at bytes.now) }
 {
     let (origin, rest) = read_counted_octet(bytes)?;
     let (seq, rest) = read_counted_eight(rest)?;
@@ -153,7 +153,7 @@ fn read_exchange(bytes: &[u8]) -> Result<(Outbound, &[u8]), OpsFault>
 /// A will, or none.
 #[tactic(auto, unfolding(crate::specs::Reading::some_will_at))]
 pub fn read_some_will(alloc: Global, bytes: &[u8]) -> Result<(Option<Will>, &[u8]), OpsFault>
-    ensures { Gives (λ x. (x.0, x.1.now)) result (some_will_at bytes.now) }
+    ensures { ReadsAs (λ x. (x.0, x.1.now)) result (some_will_at bytes.now) }
 {
     let (there, rest) = read_flag(bytes)?;
     if !there {
@@ -166,7 +166,7 @@ pub fn read_some_will(alloc: Global, bytes: &[u8]) -> Result<(Option<Will>, &[u8
 /// A will's topic, or none.
 #[tactic(auto, unfolding(crate::specs::Reading::some_topic_at))]
 pub fn read_some_topic(alloc: Global, bytes: &[u8]) -> Result<(Option<WillTopic>, &[u8]), OpsFault>
-    ensures { Gives (λ x. (x.0, x.1.now)) result (some_topic_at bytes.now) }
+    ensures { ReadsAs (λ x. (x.0, x.1.now)) result (some_topic_at bytes.now) }
 {
     let (there, rest) = read_flag(bytes)?;
     if !there {
@@ -179,7 +179,7 @@ pub fn read_some_topic(alloc: Global, bytes: &[u8]) -> Result<(Option<WillTopic>
 /// An exchange, or none.
 #[tactic(auto, unfolding(crate::specs::Reading::some_exchange_at))]
 pub fn read_some_exchange(bytes: &[u8]) -> Result<(Option<Outbound>, &[u8]), OpsFault>
-    ensures { Gives (λ x. (x.0, x.1.now)) result (some_exchange_at bytes.now) }
+    ensures { ReadsAs (λ x. (x.0, x.1.now)) result (some_exchange_at bytes.now) }
 {
     let (there, rest) = read_flag(bytes)?;
     if !there {

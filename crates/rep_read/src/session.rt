@@ -1,7 +1,7 @@
 //! Sessions and their changes.
 
 ghost use Rattle.std.specs.Prelude.{◌≡◌, ◌≤◌};
-ghost use Rattle.rep_read.specs.Reading.{Gives, head_at, parts_at, session_at, set_presence_at, set_outbound_at, fields_at, change_at};
+ghost use Rattle.rep_read.specs.Reading.{ReadsAs, head_at, parts_at, session_at, set_presence_at, set_outbound_at, fields_at, change_at};
 
 use super::field::{read_body, read_counted_two, read_octet, read_two};
 use super::part::{
@@ -17,7 +17,8 @@ use std::alloc::Global;
 /// Where the client is, whether its session is clean, how long, and the next message id.
 #[tactic(auto, unfolding(crate::specs::Reading::head_at))]
 fn read_head(bytes: &[u8]) -> Result<((Presence, bool, u16, u16), &[u8]), OpsFault>
-    ensures { Gives (λ x. ((x.0.0, (x.0.1, (x.0.2, x.0.3))), x.1.now)) result (head_at bytes.now) }
+    ensures { ReadsAs (λ x. ((x.0.0, (x.0.1, (x.0.2, x.0.3))), x.1.now)) result
+        (head_at bytes.now) }
 {
     let (presence, rest) = read_presence(bytes)?;
     let (clean, rest) = read_flag(rest)?;
@@ -38,7 +39,7 @@ type Parts = (
 /// The tables of a session, its will and its exchange.
 #[tactic(auto, unfolding(crate::specs::Reading::parts_at))]
 fn read_parts(alloc: Global, bytes: &[u8]) -> Result<(Parts, &[u8]), OpsFault>
-    ensures { Gives (λ x. ((x.0.0, (x.0.1, (x.0.2, (x.0.3, x.0.4)))), x.1.now)) result
+    ensures { ReadsAs (λ x. ((x.0.0, (x.0.1, (x.0.2, (x.0.3, x.0.4)))), x.1.now)) result
         (parts_at bytes.now) }
 {
     let (topics, rest) = read_topics(alloc, bytes)?;
@@ -52,7 +53,7 @@ fn read_parts(alloc: Global, bytes: &[u8]) -> Result<(Parts, &[u8]), OpsFault>
 /// A session.
 #[tactic(auto, unfolding(crate::specs::Reading::session_at))]
 fn read_session(alloc: Global, bytes: &[u8]) -> Result<(Session, &[u8]), OpsFault>
-    ensures { Gives (λ x. (x.0, x.1.now)) result (session_at bytes.now) }
+    ensures { ReadsAs (λ x. (x.0, x.1.now)) result (session_at bytes.now) }
 {
     let ((presence, clean, duration, next_id), rest) = read_head(bytes)?;
     let ((topics, subscriptions, will, received, outbound), rest) = read_parts(alloc, rest)?;
@@ -73,7 +74,7 @@ fn read_session(alloc: Global, bytes: &[u8]) -> Result<(Session, &[u8]), OpsFaul
 /// The fields of a change of presence.
 #[tactic(auto, unfolding(crate::specs::Reading::set_presence_at))]
 fn read_set_presence(bytes: &[u8]) -> Result<(SessionOp, &[u8]), OpsFault>
-    ensures { Gives (λ x. (x.0, x.1.now)) result (set_presence_at bytes.now) }
+    ensures { ReadsAs (λ x. (x.0, x.1.now)) result (set_presence_at bytes.now) }
 {
     let (presence, rest) = read_presence(bytes)?;
     let (duration, rest) = read_two(rest)?;
@@ -83,7 +84,7 @@ fn read_set_presence(bytes: &[u8]) -> Result<(SessionOp, &[u8]), OpsFault>
 /// The fields of a change of the exchange.
 #[tactic(auto, unfolding(crate::specs::Reading::set_outbound_at))]
 fn read_set_outbound(bytes: &[u8]) -> Result<(SessionOp, &[u8]), OpsFault>
-    ensures { Gives (λ x. (x.0, x.1.now)) result (set_outbound_at bytes.now) }
+    ensures { ReadsAs (λ x. (x.0, x.1.now)) result (set_outbound_at bytes.now) }
 {
     let (next_id, rest) = read_counted_two(bytes)?;
     let (exchange, rest) = read_some_exchange(rest)?;
@@ -93,7 +94,7 @@ fn read_set_outbound(bytes: &[u8]) -> Result<(SessionOp, &[u8]), OpsFault>
 /// The fields of a change whose tag is 5 to 9.
 fn read_later_fields(alloc: Global, tag: u8, bytes: &[u8]) -> Result<(SessionOp, &[u8]), OpsFault>
     requires { 5 ≤ tag }
-    ensures { Gives (λ x. (x.0, x.1.now)) result (fields_at tag bytes.now) }
+    ensures { ReadsAs (λ x. (x.0, x.1.now)) result (fields_at tag bytes.now) }
 {
     match tag {
         5 => {
@@ -118,7 +119,7 @@ fn read_later_fields(alloc: Global, tag: u8, bytes: &[u8]) -> Result<(SessionOp,
 
 /// The fields of a change.
 fn read_fields(alloc: Global, tag: u8, bytes: &[u8]) -> Result<(SessionOp, &[u8]), OpsFault>
-    ensures { Gives (λ x. (x.0, x.1.now)) result (fields_at tag bytes.now) }
+    ensures { ReadsAs (λ x. (x.0, x.1.now)) result (fields_at tag bytes.now) }
 {
     match tag {
         0 => {
@@ -145,7 +146,7 @@ fn read_fields(alloc: Global, tag: u8, bytes: &[u8]) -> Result<(SessionOp, &[u8]
 /// A change of a session. Tag 0 is a Take and stands at counter 0 alone.
 #[tactic(auto, unfolding(crate::specs::Reading::change_at))]
 pub fn read_change(alloc: Global, counter: u8, bytes: &[u8]) -> Result<(SessionOp, &[u8]), OpsFault>
-    ensures { Gives (λ x. (x.0, x.1.now)) result (change_at counter bytes.now) }
+    ensures { ReadsAs (λ x. (x.0, x.1.now)) result (change_at counter bytes.now) }
 {
     let (tag, rest) = read_octet(bytes)?;
     let is_tag = if counter == 0 {

@@ -3,7 +3,7 @@
 ghost use Rattle.std.specs.Prelude.{◌≡◌, ◌≤◌, nat_le, []};
 ghost use Rattle.std.specs.Int.{w16};
 ghost use Rattle.sn_tables.specs.declared.table.TheConstants.{MAX_ENTRIES};
-ghost use Rattle.rep_read.specs.Reading.{Gives, ranged, number_at, many_at, entry_at, subscription_at, topics_at, subscriptions_at, received_at};
+ghost use Rattle.rep_read.specs.Reading.{ReadsAs, ranged, number_at, many_at, entry_at, subscription_at, topics_at, subscriptions_at, received_at};
 
 use super::field::read_two;
 use super::part::{read_entry, read_subscription};
@@ -13,7 +13,8 @@ use std::alloc::Global;
 
 /// How many entries a table has.
 fn read_count(bytes: &[u8]) -> Result<(u16, &[u8]), OpsFault>
-    ensures { Gives (λ x. (x.0, x.1.now)) result (ranged (λ n. nat_le n MAX_ENTRIES) (number_at w16)
+    ensures { ReadsAs (λ x. (x.0, x.1.now)) result
+        (ranged (λ n. nat_le n MAX_ENTRIES) (number_at w16)
         bytes.now) }
 {
     let (count, rest) = read_two(bytes)?;
@@ -29,7 +30,7 @@ fn read_entries(
     count: u16,
     bytes: &[u8],
 ) -> Result<(Vec<TopicEntry>, &[u8]), OpsFault>
-    ensures { Gives (λ x. (x.0.items, x.1.now)) result (many_at entry_at count [] bytes.now) }
+    ensures { ReadsAs (λ x. (x.0.items, x.1.now)) result (many_at entry_at count [] bytes.now) }
 {
     let mut entries = Vec::new(alloc);
     let mut rest = bytes;
@@ -44,7 +45,7 @@ fn read_entries(
 /// Topic ids, ascending.
 #[tactic(auto, unfolding(crate::specs::Reading::topics_at))]
 pub fn read_topics(alloc: Global, bytes: &[u8]) -> Result<(Topics, &[u8]), OpsFault>
-    ensures { Gives (λ x. (x.0, x.1.now)) result (topics_at bytes.now) }
+    ensures { ReadsAs (λ x. (x.0, x.1.now)) result (topics_at bytes.now) }
 {
     let (count, rest) = read_count(bytes)?;
     let (entries, rest) = read_entries(alloc, count, rest)?;
@@ -60,7 +61,7 @@ fn read_each_subscription(
     count: u16,
     bytes: &[u8],
 ) -> Result<(Vec<Subscription>, &[u8]), OpsFault>
-    ensures { Gives (λ x. (x.0.items, x.1.now)) result
+    ensures { ReadsAs (λ x. (x.0.items, x.1.now)) result
         (many_at subscription_at count [] bytes.now) }
 {
     let mut entries = Vec::new(alloc);
@@ -76,7 +77,7 @@ fn read_each_subscription(
 /// Subscriptions, ascending.
 #[tactic(auto, unfolding(crate::specs::Reading::subscriptions_at))]
 pub fn read_subscriptions(alloc: Global, bytes: &[u8]) -> Result<(Subscriptions, &[u8]), OpsFault>
-    ensures { Gives (λ x. (x.0, x.1.now)) result (subscriptions_at bytes.now) }
+    ensures { ReadsAs (λ x. (x.0, x.1.now)) result (subscriptions_at bytes.now) }
 {
     let (count, rest) = read_count(bytes)?;
     let (entries, rest) = read_each_subscription(alloc, count, rest)?;
@@ -88,7 +89,7 @@ pub fn read_subscriptions(alloc: Global, bytes: &[u8]) -> Result<(Subscriptions,
 
 /// So many message ids.
 fn read_ids(alloc: Global, count: u16, bytes: &[u8]) -> Result<(Vec<u16>, &[u8]), OpsFault>
-    ensures { Gives (λ x. (x.0.items, x.1.now)) result
+    ensures { ReadsAs (λ x. (x.0.items, x.1.now)) result
         (many_at (number_at w16) count [] bytes.now) }
 {
     let mut entries = Vec::new(alloc);
@@ -104,7 +105,7 @@ fn read_ids(alloc: Global, count: u16, bytes: &[u8]) -> Result<(Vec<u16>, &[u8])
 /// Received message ids, ascending.
 #[tactic(auto, unfolding(crate::specs::Reading::received_at))]
 pub fn read_received(alloc: Global, bytes: &[u8]) -> Result<(Received, &[u8]), OpsFault>
-    ensures { Gives (λ x. (x.0, x.1.now)) result (received_at bytes.now) }
+    ensures { ReadsAs (λ x. (x.0, x.1.now)) result (received_at bytes.now) }
 {
     let (count, rest) = read_count(bytes)?;
     let (entries, rest) = read_ids(alloc, count, rest)?;

@@ -7,7 +7,7 @@ use Rattle.std.specs.List.{AllByRecursion, list_any, onto_first, join_with_byte}
 use Rattle.std.specs.Str.{bytes_eq}
 use Rattle.sn_topic.specs.Levels.{is_wildcard, has_wildcard, is_hash, is_plus, is_only, levels, begins_with_wildcard}
 use Rattle.sn_topic.specs.Matching.{is_match, levels_match, level_agrees, no_level, begins_with_dollar}
-use Rattle.sn_tables.specs.inner.Tables.{AllAbove, IsAt, IsGap}
+use Rattle.sn_tables.specs.inner.Tables.{AllAbove, IsFoundAt, IsGap}
 use Rattle.rep_op.specs.declared.op.Retained.{Retained}
 use Rattle.rep_model.specs.Topics.{is_offered}
 use Rattle.rep_retain.specs.inner.Tables.{by_topic}
@@ -88,7 +88,7 @@ module _ (asked : List ℕ) (h : plain asked) where
   none_above (e ∷ es) a = ap (λ b. cond b (e ∷ filter (is_offered asked) es) (filter (is_offered asked) es)) (not_offered e Greater a.0 refl) ∙ none_above es a.1
 
   -- where the topic has a place, what is there is offered or nothing
-  pub one_at : (es : List (List ℕ × Retained)) (i : ℕ) (d : List ℕ × Retained) → IsAt (by_topic asked) es i → filter (is_offered asked) es ≡ filter (is_offered asked) (get_or es i d ∷ [])
+  pub one_at : (es : List (List ℕ × Retained)) (i : ℕ) (d : List ℕ × Retained) → IsFoundAt (by_topic asked) es i → filter (is_offered asked) es ≡ filter (is_offered asked) (get_or es i d ∷ [])
   one_at [] i d a = absurd a
   one_at (e ∷ es) zero d a = ap (λ rest. cond (is_offered asked e) (e ∷ rest) rest) (none_above es a.1)
   one_at (e ∷ es) (suc i) d a = ap (λ b. cond b (e ∷ filter (is_offered asked) es) (filter (is_offered asked) es)) (not_offered e Less a.0 refl) ∙ one_at es i d a.1

@@ -5,7 +5,7 @@ use Rattle.std.specs.Ordering.{ordering_reverse}
 use Rattle.std.specs.Cmp.{IsTotalOrder}
 use Rattle.std.proofs.lemmas.Slice.Eq.{bytes_eq-Decides}
 use Rattle.sn_tables.specs.Tables.{is_ascending, with_entry, by_order}
-use Rattle.sn_tables.specs.inner.Tables.{AllAbove, IsAt, IsGap}
+use Rattle.sn_tables.specs.inner.Tables.{AllAbove, IsFoundAt, IsGap}
 use Rattle.sn_tables.proofs.Ascending.{Ascends, from_test, to_test}
 use Rattle.sn_tables.proofs.Places.{with_at, with_gap}
 use Rattle.rep_op.specs.declared.op.Retained.{Retained}
@@ -31,7 +31,7 @@ is_other : (t : List ℕ) (e : List ℕ × Retained) (o : Ordering) → by_topic
 is_other t e o h differ = turned e.0 t (apart e.0 t o h differ)
 
 -- what stands at its place is found
-pub found : (t : List ℕ) (es : List (List ℕ × Retained)) (i : ℕ) (d : List ℕ × Retained) → IsAt (by_topic t) es i → kept_in t es ≡ Some (get_or es i d).1
+pub found : (t : List ℕ) (es : List (List ℕ × Retained)) (i : ℕ) (d : List ℕ × Retained) → IsFoundAt (by_topic t) es i → kept_in t es ≡ Some (get_or es i d).1
 found t [] i d h = absurd h
 found t (e ∷ es) zero d h = ap (λ b. if b then Some e.1 else kept_in t es) (is_same t e h.0)
 found t (e ∷ es) (suc i) d h = ap (λ b. if b then Some e.1 else kept_in t es) (is_other t e Less h.0 refl) ∙ found t es i d h.1
@@ -47,7 +47,7 @@ absent t [] (suc i) h = absurd h
 absent t (e ∷ es) (suc i) h = ap (λ b. if b then Some e.1 else kept_in t es) (is_other t e Less h.0 refl) ∙ absent t es i h.1
 
 -- the entry of a place, put into the table again
-same_entry : (t : List ℕ) (es : List (List ℕ × Retained)) (i : ℕ) (d : List ℕ × Retained) → IsAt (by_topic t) es i → with_entry entry_cmp (t, (get_or es i d).1) es ≡ es
+same_entry : (t : List ℕ) (es : List (List ℕ × Retained)) (i : ℕ) (d : List ℕ × Retained) → IsFoundAt (by_topic t) es i → with_entry entry_cmp (t, (get_or es i d).1) es ≡ es
 same_entry t [] i d h = absurd h
 same_entry t (e ∷ es) zero d h =
     ap (λ o. by_order o ((t, e.1) ∷ e ∷ es) ((t, e.1) ∷ es) (e ∷ with_entry entry_cmp (t, e.1) es)) (turns (t, e.1) e ∙ ap ordering_reverse h.0)
@@ -59,14 +59,14 @@ same_entry t (e ∷ es) (suc i) d h =
 
 module _ (t : List ℕ) (k : Retained) (es : List (List ℕ × Retained)) (i : ℕ) where
   -- what stands there is later, or as late
-  pub stays : (d : List ℕ × Retained) → IsAt (by_topic t) es i → is_lt (clock_cmp (clock_of (get_or es i d).1) (clock_of k)) ≡ false → es ≡ with_kept t k es
+  pub stays : (d : List ℕ × Retained) → IsFoundAt (by_topic t) es i → is_lt (clock_cmp (clock_of (get_or es i d).1) (clock_of k)) ≡ false → es ≡ with_kept t k es
   stays d h later =
       let own = (get_or es i d).1 in
       let latest : latest_of (kept_in t es) k ≡ own = ap (λ o. latest_of o k) (found t es i d h) ∙ ap (λ b. if b then k else own) later in
       sym (ap (λ v. with_entry entry_cmp (t, v) es) latest ∙ same_entry t es i d h)
 
   -- what stands there is outdone
-  pub set_is : (d : List ℕ × Retained) → IsAt (by_topic t) es i → is_lt (clock_cmp (clock_of (get_or es i d).1) (clock_of k)) ≡ true → set es i (t, k) ≡ with_kept t k es
+  pub set_is : (d : List ℕ × Retained) → IsFoundAt (by_topic t) es i → is_lt (clock_cmp (clock_of (get_or es i d).1) (clock_of k)) ≡ true → set es i (t, k) ≡ with_kept t k es
   set_is d h later =
       let own = (get_or es i d).1 in
       let latest : latest_of (kept_in t es) k ≡ k = ap (λ o. latest_of o k) (found t es i d h) ∙ ap (λ b. if b then k else own) later in

@@ -9,14 +9,14 @@ use Rattle.rep_model.specs.declared.fault.TakeFault.TheVariants.{Conflict, Full,
 use Rattle.rep_model.specs.Limits.{first_passed}
 use Rattle.rep_model.specs.Taking.{AllAgree, Fits, IsFaultOf}
 use Rattle.rep_model.proofs.Beside.{conflict_back, full_back, agree_both}
-use Rattle.rep_retain.specs.Refusals.{IsConflict, IsFull}
+use Rattle.rep_retain.specs.Refusals.{IsContradiction, IsFull}
 
 pub made_parts : (xs ys : List Op) → AreWellMade (xs ++ ys) → AreWellMade xs × AreWellMade ys
 made_parts [] ys h = (tt, h)
 made_parts (x ∷ xs) ys h = let rest = made_parts xs ys h.1 in ((h.0, rest.0), rest.1)
 
 module _ (A T C R : List Op) (a : AreOfClients A) (t : AreOfTopics T) (c : AreOfClients C) (r : AreOfTopics R) where
-  pub refused_by_topics : (fault : TakeFault) → IsConflict T R fault → IsFaultOf (A ++ T) (C ++ R) fault
+  pub refused_by_topics : (fault : TakeFault) → IsContradiction T R fault → IsFaultOf (A ++ T) (C ++ R) fault
   refused_by_topics (Conflict about) f = conflict_back A T C R a t c r about f
   refused_by_topics (Full limit) f = absurd f
   refused_by_topics Memory f = tt

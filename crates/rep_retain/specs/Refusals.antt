@@ -10,11 +10,11 @@ use Rattle.rep_model.specs.declared.fault.TakeFault.TheVariants.{Conflict, Full,
 use Rattle.rep_model.specs.Topics.{topics}
 
 -- an operation contradicts what is kept, or memory ran out
-abbrev pub IsConflict : List Op → List Op → TakeFault → Type 0
-IsConflict K D (Conflict about) =
+abbrev pub IsContradiction : List Op → List Op → TakeFault → Type 0
+IsContradiction K D (Conflict about) =
     (o : Op) × Contains D o × (subject_of o ≡ about) × (¬ (Agrees K o))
-IsConflict K D (Full limit) = ⊥
-IsConflict K D Memory = Unit {0}
+IsContradiction K D (Full limit) = ⊥
+IsContradiction K D Memory = Unit {0}
 
 -- no more topics than may be
 abbrev pub AreFew : List Op → Type 0

@@ -1,5 +1,5 @@
--- What is retained of topics as a table: each topic once, in ascending order, with what was retained
--- of it last.
+-- What is retained of topics as a table: each topic once, in ascending order, with what was
+-- retained of it last.
 use Rattle.std.specs.Prelude.{◌≤◌, ℕ, List, map, length, Option, Some, None, IsTrue}
 use Rattle.std.specs.declared.cmp.Ordering.{Ordering}
 use Rattle.sn_tables.specs.Tables.{is_ascending}
@@ -23,7 +23,7 @@ abbrev pub ops_of : List (List ℕ × Retained) → List Op
 ops_of es = map op_of es
 
 -- a table: topics in strictly ascending order, at most 4,096, each with what a delta may hold
-pub record IsTable (es : List (List ℕ × Retained)) : Type 0 where
+pub record IsTopicTable (es : List (List ℕ × Retained)) : Type 0 where
   pub ascending : IsTrue (is_ascending entry_cmp es)
   pub well_made : AreWellMade (ops_of es)
   pub few : length es ≤ MOST_RETAINED

@@ -2,7 +2,7 @@
 
 ghost use Rattle.std.specs.Prelude.{◌≡◌, ◌<◌, ◌∷◌, [], length, IsTrue, IfOk, IfSome};
 ghost use Rattle.sn_tables.specs.Tables.{is_ascending};
-ghost use Rattle.sn_tables.specs.inner.Tables.{IsAt};
+ghost use Rattle.sn_tables.specs.inner.Tables.{IsFoundAt};
 ghost use Rattle.rep_op.specs.declared.op.Op.TheVariants.{Retain as OfRetain};
 ghost use Rattle.rep_retain.specs.Tables.{entry_cmp};
 ghost use Rattle.rep_retain.specs.inner.Tables.{by_topic};
@@ -65,7 +65,7 @@ fn staged_at(
     kept: &Retained,
 ) -> Result<Option<TopicsStaged>, NoMemory>
     requires bound { at < length entries.now }
-    requires place { IsAt (by_topic topic.now) entries.now at }
+    requires place { IsFoundAt (by_topic topic.now) entries.now at }
     ensures { IfOk result (λ found. IfSome found (λ staged.
         IsStagedOf entries.now (OfRetain topic.now kept.now ∷ []) staged)) }
 {

@@ -8,14 +8,14 @@ ghost use Rattle.rep_op.specs.Sets.{retain_at, Agrees};
 ghost use Rattle.rep_ops.specs.Making.{AreWellMade};
 ghost use Rattle.sn_topic.specs.Levels.{has_wildcard};
 ghost use Rattle.sn_tables.specs.Tables.{is_ascending};
-ghost use Rattle.sn_tables.specs.inner.Tables.{IsPlace, IsAt, IsGap};
+ghost use Rattle.sn_tables.specs.inner.Tables.{IsPlace, IsFoundAt, IsGap};
 ghost use Rattle.rep_model.specs.Taking.{AllAgree};
 ghost use Rattle.rep_model.specs.Keep.{keep, IsKeptOf};
 ghost use Rattle.rep_model.specs.Topics as topics;
 ghost use Rattle.rep_model.specs.Fresh as fresh;
 ghost use Rattle.rep_retain.specs.Tables.{entry_cmp, op_of, ops_of};
 ghost use Rattle.rep_retain.specs.inner.Tables.{by_topic, kept_in, with_kept, with_op, with_ops};
-ghost use Rattle.rep_retain.specs.Refusals.{IsConflict, AreFew, IsFull};
+ghost use Rattle.rep_retain.specs.Refusals.{IsContradiction, AreFew, IsFull};
 ghost use Rattle.rep_retain.specs.inner.Refusals.{IsInKeeping};
 
 use super::staged::{TopicsStaged, alone};
@@ -37,13 +37,13 @@ pub struct Topics {
 impl Model for Topics {
     ghost use Rattle.std.specs.Prelude.{List, ℕ};
     ghost use Rattle.rep_op.specs.declared.op.Retained.{Retained};
-    ghost use Rattle.rep_retain.specs.Tables.{IsTable};
+    ghost use Rattle.rep_retain.specs.Tables.{IsTopicTable};
 
     ghost Value = { List (List ℕ × Retained) };
 
     ghost view = { λ t. t.entries.items };
 
-    ghost invariant = { λ t. IsTable t.entries.items };
+    ghost invariant = { λ t. IsTopicTable t.entries.items };
 }
 
 /// Where a topic stands in a table, or where it would go. The time is logarithmic.
@@ -140,7 +140,7 @@ fn put_at(
     kept: &Retained,
 ) -> Result<(), NoMemory>
     requires bound { at < vec_len entries.old }
-    requires place { IsAt (by_topic topic.now) entries.old.items at }
+    requires place { IsFoundAt (by_topic topic.now) entries.old.items at }
     ensures { OnOk result (entries.new.items ≡ with_kept topic.now kept.now entries.old.items) }
 {
     if !is_later(&entries[at].1, kept) {
@@ -266,7 +266,7 @@ fn check_all(alloc: Global, entries: &[(TopicName, Retained)], ops: &[Op]) -> Re
     requires table { IsTrue (is_ascending entry_cmp entries.now) }
     requires topics { AreOfTopics ops.now }
     ensures agree { OnOk result (AllAgree (ops_of entries.now) ops.now) }
-    ensures fault { IfErr result (IsConflict (ops_of entries.now) ops.now) }
+    ensures fault { IfErr result (IsContradiction (ops_of entries.now) ops.now) }
 {
     for op in ops {
         if !agrees(entries, op) {
@@ -311,7 +311,7 @@ fn is_offered(asked: &Filter, topic: &TopicName, kept: &Retained) -> bool
 }
 
 impl Topics {
-    ghost use Rattle.rep_retain.specs.Staging.{moved, IsReady};
+    ghost use Rattle.rep_retain.specs.Staging.{topics_moved, IsTopicsReady};
 
     /// The table of no topic.
     pub fn empty(alloc: Global) -> Topics
@@ -328,7 +328,7 @@ impl Topics {
     pub fn check(&self, alloc: Global, ops: &[Op]) -> Result<(), TakeFault>
         requires { AreOfTopics ops.now }
         ensures agree { OnOk result (AllAgree (ops_of self.now) ops.now) }
-        ensures fault { IfErr result (IsConflict (ops_of self.now) ops.now) }
+        ensures fault { IfErr result (IsContradiction (ops_of self.now) ops.now) }
     {
         check_all(alloc, self.entries.as_slice(), ops)
     }
@@ -342,8 +342,8 @@ impl Topics {
         requires topics { AreOfTopics ops.now }
         ensures few { OnOk result (AreFew (ops_of self.now ++ ops.now)) }
         ensures kept { IfOk result (λ staged. IsKeptOf (ops_of self.now ++ ops.now)
-            (ops_of (moved self.now staged))) }
-        ensures ready { IfOk result (λ staged. IsReady self.now staged) }
+            (ops_of (topics_moved self.now staged))) }
+        ensures ready { IfOk result (λ staged. IsTopicsReady self.now staged) }
         ensures fault { IfErr result (IsFull (ops_of self.now ++ ops.now)) }
     {
         let _own = self.entries.len();
@@ -380,8 +380,8 @@ impl Topics {
 
     /// Takes what the latest `prepare` made ready.
     pub fn commit(&mut self, staged: TopicsStaged)
-        requires { IsReady self.old staged }
-        ensures { self.new ≡ moved self.old staged }
+        requires { IsTopicsReady self.old staged }
+        ensures { self.new ≡ topics_moved self.old staged }
     {
         match staged {
             TopicsStaged::Nothing => {}

@@ -34,18 +34,18 @@ impl<C: ClientSet> Replica for Whole<C> {
     ghost use Rattle.std.specs.Prelude.{◌++◌};
     ghost use Rattle.rep_op.specs.Orders.{AreOfClients};
     ghost use Rattle.rep_retain.specs.Tables.{ops_of};
-    ghost use Rattle.rep_retain.specs.Staging.{moved, IsReady};
+    ghost use Rattle.rep_retain.specs.Staging.{topics_moved, IsTopicsReady};
     ghost use Rattle.rep_retain.specs.Asides.{topics_back, AreTopicsSaved};
 
     type Staged = WholeStaged<C::Staged>;
 
     ghost kept = { λ w. C.kept w.clients ++ ops_of w.topics };
 
-    ghost after = { λ w s. C.after w.clients s.clients ++ ops_of (moved w.topics s.topics) };
+    ghost after = { λ w s. C.after w.clients s.clients ++ ops_of (topics_moved w.topics s.topics) };
 
     ghost ready = { λ w s. C.ready w.clients s.clients
         × AreOfClients (C.after w.clients s.clients)
-        × IsReady w.topics s.topics };
+        × IsTopicsReady w.topics s.topics };
 
     ghost back = { λ w aside. C.back w.clients aside.clients
         ++ ops_of (topics_back aside.has_topics aside.topics w.topics) };

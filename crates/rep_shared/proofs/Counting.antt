@@ -15,7 +15,7 @@ use Rattle.rep_model.specs.Topics.{topics}
 use Rattle.rep_model.specs.Limits.{parked, exceptions, first_passed}
 use Rattle.rep_model.proofs.Lookup.{or_else}
 use Rattle.rep_model.proofs.Beside.{no_topics_of}
-use Rattle.rep_shared.specs.Rows.{own, or_nothing, moved, has_any, count_named, IsOwn}
+use Rattle.rep_shared.specs.Rows.{own, or_nothing, rows_with, has_any, count_named, IsOwn}
 use Rattle.rep_shared.specs.inner.Rows.{count_new, AreRows}
 use Rattle.rep_shared.specs.inner.Tables.{passed_of}
 use Rattle.rep_shared.proofs.Flat.{find_in_moved, rows_moved, count_put, find_below, one_if}
@@ -54,10 +54,10 @@ count_head p x xs = sym (length-filter p (x ∷ xs)) ∙ elim (p x) as (λ b. le
   | false ↦ length-filter p xs ∙ (let e : count_by p xs ≡ 0 + count_by p xs = omega arith in e)
 ]
 
-pub count_moved : (rows fresh : List (List ℕ × List Op)) → AreRows rows → T (is_sorted client_cmp fresh) → AllByRecursion (λ row. IsOwn row.0 row.1) fresh → AllByRecursion (λ row. has_any row.1 ≡ true) fresh → count_named (moved rows fresh) ≡ count_named rows + count_new rows fresh
+pub count_moved : (rows fresh : List (List ℕ × List Op)) → AreRows rows → T (is_sorted client_cmp fresh) → AllByRecursion (λ row. IsOwn row.0 row.1) fresh → AllByRecursion (λ row. has_any row.1 ≡ true) fresh → count_named (rows_with rows fresh) ≡ count_named rows + count_new rows fresh
 count_moved rows [] are sorted owned any = let e : count_named rows ≡ count_named rows + 0 = omega arith in e
 count_moved rows (row ∷ fresh) are sorted owned any =
-    let X = moved rows fresh in
+    let X = rows_with rows fresh in
     let rest = count_moved rows fresh are (second (below_all client_cmp row.0 fresh) (is_sorted client_cmp fresh) sorted) owned.1 any.1 in
     let none = find_below client_cmp row.0 fresh (first (below_all client_cmp row.0 fresh) (is_sorted client_cmp fresh) sorted) in
     let same : own row.0 X ≡ own row.0 rows = ap or_nothing (find_in_moved row.0 rows fresh ∙ ap (λ x. or_else x (find client_cmp row.0 rows)) none) in

@@ -16,7 +16,7 @@ use Rattle.rep_op.specs.Sets.{same_client}
 use Rattle.rep_model.specs.Views.{named, in_order, names, clients, names_client, is_named}
 use Rattle.rep_model.proofs.Lookup.{or_else}
 use Rattle.rep_model.proofs.Readers.{client_total, client_exact}
-use Rattle.rep_shared.specs.Rows.{flat, own, or_nothing, moved, has_any, count_named, IsOwn}
+use Rattle.rep_shared.specs.Rows.{flat, own, or_nothing, rows_with, has_any, count_named, IsOwn}
 use Rattle.rep_shared.specs.inner.Rows.{AreRows, of_client}
 use Rattle.rep_shared.proofs.Single.{is_named_own}
 
@@ -198,10 +198,10 @@ named_flat c rows h = is_named_own c (flat rows) ∙ ap (is_named c) (of_flat c 
 
 -- ---- rows after a move
 
-pub find_in_moved : (c : List ℕ) (rows fresh : List (List ℕ × List Op)) → find client_cmp c (moved rows fresh) ≡ or_else (find client_cmp c fresh) (find client_cmp c rows)
+pub find_in_moved : (c : List ℕ) (rows fresh : List (List ℕ × List Op)) → find client_cmp c (rows_with rows fresh) ≡ or_else (find client_cmp c fresh) (find client_cmp c rows)
 find_in_moved c rows [] = refl
 find_in_moved c rows (row ∷ fresh) =
-    find-put client_cmp client_total c row.0 row.1 (moved rows fresh)
+    find-put client_cmp client_total c row.0 row.1 (rows_with rows fresh)
     ∙ ap (cond (eq_by_cmp client_cmp c row.0) (Some row.1)) (find_in_moved c rows fresh)
     ∙ sym (find_moved client_cmp client_total c row.0 row.1 rows (find client_cmp c fresh))
 
@@ -211,12 +211,12 @@ rows_put c ops rows is h = record {
   owned = all_put client_cmp client_exact IsOwn c ops rows is h.owned;
 }
 
-pub rows_moved : (rows fresh : List (List ℕ × List Op)) → AreRows rows → AllByRecursion (λ row. IsOwn row.0 row.1) fresh → AreRows (moved rows fresh)
+pub rows_moved : (rows fresh : List (List ℕ × List Op)) → AreRows rows → AllByRecursion (λ row. IsOwn row.0 row.1) fresh → AreRows (rows_with rows fresh)
 rows_moved rows [] h owned = h
-rows_moved rows (row ∷ fresh) h owned = rows_put row.0 row.1 (moved rows fresh) owned.0 (rows_moved rows fresh h owned.1)
+rows_moved rows (row ∷ fresh) h owned = rows_put row.0 row.1 (rows_with rows fresh) owned.0 (rows_moved rows fresh h owned.1)
 
 -- the last fresh row first
-pub moved_last : (rows fresh : List (List ℕ × List Op)) (row : List ℕ × List Op) → moved rows (fresh ++ row ∷ []) ≡ moved (put client_cmp row.0 row.1 rows) fresh
+pub moved_last : (rows fresh : List (List ℕ × List Op)) (row : List ℕ × List Op) → rows_with rows (fresh ++ row ∷ []) ≡ rows_with (put client_cmp row.0 row.1 rows) fresh
 moved_last rows [] row = refl
 moved_last rows (other ∷ fresh) row = ap (put client_cmp other.0 other.1) (moved_last rows fresh row)
 

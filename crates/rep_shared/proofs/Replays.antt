@@ -2,7 +2,7 @@
 use Rattle.std.proofs.Common.{◌≡◌, ℕ, suc, ◌+◌, ◌-◌, ◌<◌, [], length, fold, Some, None, Option, refl, sym, ap, ◌∙◌, arith}
 use Rattle.sn_session.specs.declared.session.Session.{Session}
 use Rattle.sn_session.specs.declared.change.SessionOp.{SessionOp}
-use Rattle.rep_model.specs.Views.{gapless, then_more, session_of, after_change}
+use Rattle.rep_model.specs.Views.{gapless, then_more, session_made, after_change}
 use Rattle.rep_shared.specs.inner.Replays.{IsReplayed}
 
 pub replayed_none : (at : ℕ → Option SessionOp) → IsReplayed at None 0
@@ -22,13 +22,13 @@ replayed_more at session n change h is r =
     let l : length (gapless at (256 - n) n) ≡ suc (length rest) = ap length e in
     record { prefix = omega (arith, r.prefix, l); made = r.made ∙ ap (fold after_change session) e }
 
-pub replayed_gap : (at : ℕ → Option SessionOp) (session : Option Session) (n : ℕ) → n < 256 → at n ≡ None → IsReplayed at session n → (n ≡ length (gapless at 256 0)) × (session ≡ session_of (gapless at 256 0))
+pub replayed_gap : (at : ℕ → Option SessionOp) (session : Option Session) (n : ℕ) → n < 256 → at n ≡ None → IsReplayed at session n → (n ≡ length (gapless at 256 0)) × (session ≡ session_made (gapless at 256 0))
 replayed_gap at session n h is r =
     let e = gapless_step at n h ∙ ap (λ o. then_more o (gapless at (256 - (n + 1)) (n + 1))) is in
     let l : length (gapless at (256 - n) n) ≡ 0 = ap length e in
     (omega (arith, r.prefix, l), sym (r.made ∙ ap (fold after_change session) e))
 
-pub replayed_all : (at : ℕ → Option SessionOp) (session : Option Session) (n : ℕ) → n ≡ 256 → IsReplayed at session n → (n ≡ length (gapless at 256 0)) × (session ≡ session_of (gapless at 256 0))
+pub replayed_all : (at : ℕ → Option SessionOp) (session : Option Session) (n : ℕ) → n ≡ 256 → IsReplayed at session n → (n ≡ length (gapless at 256 0)) × (session ≡ session_made (gapless at 256 0))
 unfolding gapless
 replayed_all at session n is r =
     let none : gapless at (256 - n) n ≡ [] = ap (λ room. gapless at room n) (let z : 256 - n ≡ 0 = omega arith in z) in

@@ -9,7 +9,7 @@ use Rattle.rep_op.specs.declared.op.Op.{Op}
 use Rattle.rep_op.specs.declared.op.Op.TheVariants.{Session as OfSession, Put as OfPut, Ack, Retain as OfRetain}
 use Rattle.rep_op.specs.Orders.{stamp_cmp, operation_cmp, put_cmp, clock_cmp, client_of}
 use Rattle.rep_op.specs.Sets.{same_client, operation_of, operations, operation_at, put_of, puts, put_at, acknowledges, is_acknowledged, retain_of, retains, retain_at}
-use Rattle.rep_model.specs.Views.{greatest, take_stamp, names, visible, history, history_at, session_of, in_order, pending, view, names_client, is_named}
+use Rattle.rep_model.specs.Views.{greatest, take_stamp, names, visible, history, history_at, session_made, in_order, pending, view, names_client, is_named}
 use Rattle.rep_model.specs.Fresh.{largest, seq_of, greatest_epoch}
 use Rattle.rep_model.specs.Limits.{is_parked, parked, range_of, joined, above_a_gap, sum_to, exceptions}
 use Rattle.rep_shared.specs.inner.Rows.{of_client}
@@ -118,7 +118,7 @@ module _ (c : List ℕ) (S : List Op) where
   pending_own = λ i. map (λ e. e.1) (in_order put_cmp (filter (λ e. not (is_acknowledged_own e.0 i)) (puts_own i)))
 
   pub view_own : view c S ≡ view c (of_client c S)
-  view_own = λ i. record { stamp = visible_own i; prefix = length (history_own i); session = session_of (history_own i); pending = pending_own i }
+  view_own = λ i. record { stamp = visible_own i; prefix = length (history_own i); session = session_made (history_own i); pending = pending_own i }
 
   pub parked_own : parked c S ≡ parked c (of_client c S)
   parked_own = λ i. filter (is_parked (visible_own i) (length (history_own i))) (in_order operation_cmp (operations_own i))

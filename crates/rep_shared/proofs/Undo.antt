@@ -10,7 +10,7 @@ use Rattle.rep_op.specs.Orders.{client_cmp}
 use Rattle.rep_model.specs.declared.fault.TheConstants.{MOST_CLIENTS}
 use Rattle.rep_model.proofs.Lookup.{or_else}
 use Rattle.rep_model.proofs.Readers.{client_total, client_exact}
-use Rattle.rep_shared.specs.Rows.{flat, or_nothing, own, moved, has_any, count_named, CanGoBack, AreSaved}
+use Rattle.rep_shared.specs.Rows.{flat, or_nothing, own, rows_with, has_any, count_named, CanGoBack, AreSaved}
 use Rattle.rep_shared.proofs.Flat.{find_below, find_moved, find_in_moved, all_put, head_count, count_put, one_if}
 
 abbrev Rows : Type 0
@@ -19,9 +19,9 @@ Rows = List (List ℕ × List Op)
 none_some : {A P : Type 0} (x : A) → Some x ≡ None → P
 none_some x h = cc
 
-pub sorted_moved : (rows fresh : Rows) → T (is_sorted client_cmp rows) → T (is_sorted client_cmp (moved rows fresh))
+pub sorted_moved : (rows fresh : Rows) → T (is_sorted client_cmp rows) → T (is_sorted client_cmp (rows_with rows fresh))
 sorted_moved rows [] h = h
-sorted_moved rows (row ∷ fresh) h = is_sorted-put client_cmp client_total row.0 row.1 (moved rows fresh) (sorted_moved rows fresh h)
+sorted_moved rows (row ∷ fresh) h = is_sorted-put client_cmp client_total row.0 row.1 (rows_with rows fresh) (sorted_moved rows fresh h)
 
 -- ---- a change of rows that lie aside does not matter
 
@@ -29,11 +29,11 @@ over : (s n r : Option (List Op)) → (s ≡ None → n ≡ None) → or_else s 
 over (Some x) n r h = refl
 over None n r h = ap (λ (m : Option (List Op)). or_else m r) (h refl)
 
-pub moved_over : (rows news aside : Rows) → T (is_sorted client_cmp rows) → ((q : List ℕ) → find client_cmp q aside ≡ None → find client_cmp q news ≡ None) → moved (moved rows news) aside ≡ moved rows aside
+pub moved_over : (rows news aside : Rows) → T (is_sorted client_cmp rows) → ((q : List ℕ) → find client_cmp q aside ≡ None → find client_cmp q news ≡ None) → rows_with (rows_with rows news) aside ≡ rows_with rows aside
 moved_over rows news aside h covers =
-    same_entries client_cmp client_total client_exact (moved (moved rows news) aside) (moved rows aside) (sorted_moved (moved rows news) aside (sorted_moved rows news h)) (sorted_moved rows aside h)
+    same_entries client_cmp client_total client_exact (rows_with (rows_with rows news) aside) (rows_with rows aside) (sorted_moved (rows_with rows news) aside (sorted_moved rows news h)) (sorted_moved rows aside h)
     (λ q.
-    find_in_moved q (moved rows news) aside ∙ ap (or_else (find client_cmp q aside)) (find_in_moved q rows news)
+    find_in_moved q (rows_with rows news) aside ∙ ap (or_else (find client_cmp q aside)) (find_in_moved q rows news)
     ∙ over (find client_cmp q aside) (find client_cmp q news) (find client_cmp q rows) (covers q)
     ∙ sym (find_in_moved q rows aside))
 
@@ -47,10 +47,10 @@ saved_too : (b : Bool) (s r : Option (List Op)) (v : List Op) → (b ≡ true �
 saved_too true s r v h = let k = h refl in k.1 ∙ sym (ap (λ (x : Option (List Op)). or_else x r) k.0)
 saved_too false s r v h = refl
 
-pub moved_saved : (rows aside : Rows) (c : List ℕ) → T (is_sorted client_cmp rows) → IsSome (find client_cmp c rows) → find client_cmp c aside ≡ None → moved rows (put client_cmp c (own c rows) aside) ≡ moved rows aside
+pub moved_saved : (rows aside : Rows) (c : List ℕ) → T (is_sorted client_cmp rows) → IsSome (find client_cmp c rows) → find client_cmp c aside ≡ None → rows_with rows (put client_cmp c (own c rows) aside) ≡ rows_with rows aside
 moved_saved rows aside c h is new =
     let saved : Rows = put client_cmp c (own c rows) aside in
-    same_entries client_cmp client_total client_exact (moved rows saved) (moved rows aside) (sorted_moved rows saved h) (sorted_moved rows aside h)
+    same_entries client_cmp client_total client_exact (rows_with rows saved) (rows_with rows aside) (sorted_moved rows saved h) (sorted_moved rows aside h)
     (λ q.
     find_in_moved q rows saved
     ∙ ap (λ (x : Option (List Op)). or_else x (find client_cmp q rows)) (find-put client_cmp client_total q c (own c rows) aside)
@@ -73,46 +73,46 @@ other : (b : Bool) (s r : Option (List Op)) (v : List Op) → (b ≡ true → s 
 other true s r v h = ap (λ (x : Option (List Op)). or_else x (Some v)) (h refl)
 other false s r v h = refl
 
-pub moved_put : (rows aside : Rows) (c : List ℕ) (ops : List Op) → T (is_sorted client_cmp rows) → find client_cmp c aside ≡ None → moved (put client_cmp c ops rows) aside ≡ put client_cmp c ops (moved rows aside)
+pub moved_put : (rows aside : Rows) (c : List ℕ) (ops : List Op) → T (is_sorted client_cmp rows) → find client_cmp c aside ≡ None → rows_with (put client_cmp c ops rows) aside ≡ put client_cmp c ops (rows_with rows aside)
 moved_put rows aside c ops h unsaved =
-    same_entries client_cmp client_total client_exact (moved (put client_cmp c ops rows) aside) (put client_cmp c ops (moved rows aside))
-    (sorted_moved (put client_cmp c ops rows) aside (is_sorted-put client_cmp client_total c ops rows h)) (is_sorted-put client_cmp client_total c ops (moved rows aside) (sorted_moved rows aside h))
+    same_entries client_cmp client_total client_exact (rows_with (put client_cmp c ops rows) aside) (put client_cmp c ops (rows_with rows aside))
+    (sorted_moved (put client_cmp c ops rows) aside (is_sorted-put client_cmp client_total c ops rows h)) (is_sorted-put client_cmp client_total c ops (rows_with rows aside) (sorted_moved rows aside h))
     (λ q.
     find_in_moved q (put client_cmp c ops rows) aside
     ∙ ap (or_else (find client_cmp q aside)) (find-put client_cmp client_total q c ops rows)
     ∙ other (eq_by_cmp client_cmp q c) (find client_cmp q aside) (find client_cmp q rows) ops (λ t. ap (λ k. find client_cmp k aside) (tells_apart client_exact q c t) ∙ unsaved)
-    ∙ sym (find-put client_cmp client_total q c ops (moved rows aside) ∙ ap (cond (eq_by_cmp client_cmp q c) (Some ops)) (find_in_moved q rows aside)))
+    ∙ sym (find-put client_cmp client_total q c ops (rows_with rows aside) ∙ ap (cond (eq_by_cmp client_cmp q c) (Some ops)) (find_in_moved q rows aside)))
 
-pub moved_place : (rows aside : Rows) (c : List ℕ) → T (is_sorted client_cmp rows) → find client_cmp c aside ≡ None → moved (put client_cmp c [] rows) aside ≡ put client_cmp c [] (moved rows aside)
+pub moved_place : (rows aside : Rows) (c : List ℕ) → T (is_sorted client_cmp rows) → find client_cmp c aside ≡ None → rows_with (put client_cmp c [] rows) aside ≡ put client_cmp c [] (rows_with rows aside)
 moved_place rows aside c h unsaved = moved_put rows aside c [] h unsaved
 
 -- a row more aside goes over all
-pub moved_aside : (rows aside : Rows) (c : List ℕ) (ops : List Op) → T (is_sorted client_cmp rows) → moved rows (put client_cmp c ops aside) ≡ put client_cmp c ops (moved rows aside)
+pub moved_aside : (rows aside : Rows) (c : List ℕ) (ops : List Op) → T (is_sorted client_cmp rows) → rows_with rows (put client_cmp c ops aside) ≡ put client_cmp c ops (rows_with rows aside)
 moved_aside rows aside c ops h =
     let more : Rows = put client_cmp c ops aside in
-    same_entries client_cmp client_total client_exact (moved rows more) (put client_cmp c ops (moved rows aside))
-    (sorted_moved rows more h) (is_sorted-put client_cmp client_total c ops (moved rows aside) (sorted_moved rows aside h))
+    same_entries client_cmp client_total client_exact (rows_with rows more) (put client_cmp c ops (rows_with rows aside))
+    (sorted_moved rows more h) (is_sorted-put client_cmp client_total c ops (rows_with rows aside) (sorted_moved rows aside h))
     (λ q.
     find_in_moved q rows more
     ∙ ap (λ (x : Option (List Op)). or_else x (find client_cmp q rows)) (find-put client_cmp client_total q c ops aside)
     ∙ find_moved client_cmp client_total q c ops rows (find client_cmp q aside)
-    ∙ sym (find-put client_cmp client_total q c ops (moved rows aside) ∙ ap (cond (eq_by_cmp client_cmp q c) (Some ops)) (find_in_moved q rows aside)))
+    ∙ sym (find-put client_cmp client_total q c ops (rows_with rows aside) ∙ ap (cond (eq_by_cmp client_cmp q c) (Some ops)) (find_in_moved q rows aside)))
 
 -- what goes back anyway may go back first
-pub moved_swap : (rows aside : Rows) (c : List ℕ) (ops : List Op) → T (is_sorted client_cmp rows) → find client_cmp c aside ≡ None → moved (put client_cmp c ops rows) aside ≡ moved rows (put client_cmp c ops aside)
+pub moved_swap : (rows aside : Rows) (c : List ℕ) (ops : List Op) → T (is_sorted client_cmp rows) → find client_cmp c aside ≡ None → rows_with (put client_cmp c ops rows) aside ≡ rows_with rows (put client_cmp c ops aside)
 moved_swap rows aside c ops h unsaved = moved_put rows aside c ops h unsaved ∙ sym (moved_aside rows aside c ops h)
 
-none_moved : (rows aside : Rows) (c : List ℕ) → find client_cmp c rows ≡ None → find client_cmp c aside ≡ None → find client_cmp c (moved rows aside) ≡ None
+none_moved : (rows aside : Rows) (c : List ℕ) → find client_cmp c rows ≡ None → find client_cmp c aside ≡ None → find client_cmp c (rows_with rows aside) ≡ None
 none_moved rows aside c none unsaved = find_in_moved c rows aside ∙ ap (λ (x : Option (List Op)). or_else x (find client_cmp c rows)) unsaved ∙ none
 
-pub flat_roomier : (rows aside : Rows) (c : List ℕ) → T (is_sorted client_cmp rows) → find client_cmp c rows ≡ None → find client_cmp c aside ≡ None → flat (moved (put client_cmp c [] rows) aside) ≡ flat (moved rows aside)
-flat_roomier rows aside c h none unsaved = ap flat (moved_place rows aside c h unsaved) ∙ flat_place c (moved rows aside) (none_moved rows aside c none unsaved)
+pub flat_roomier : (rows aside : Rows) (c : List ℕ) → T (is_sorted client_cmp rows) → find client_cmp c rows ≡ None → find client_cmp c aside ≡ None → flat (rows_with (put client_cmp c [] rows) aside) ≡ flat (rows_with rows aside)
+flat_roomier rows aside c h none unsaved = ap flat (moved_place rows aside c h unsaved) ∙ flat_place c (rows_with rows aside) (none_moved rows aside c none unsaved)
 
-pub count_roomier : (rows aside : Rows) (c : List ℕ) → T (is_sorted client_cmp rows) → find client_cmp c rows ≡ None → find client_cmp c aside ≡ None → count_named (moved (put client_cmp c [] rows) aside) ≡ count_named (moved rows aside)
+pub count_roomier : (rows aside : Rows) (c : List ℕ) → T (is_sorted client_cmp rows) → find client_cmp c rows ≡ None → find client_cmp c aside ≡ None → count_named (rows_with (put client_cmp c [] rows) aside) ≡ count_named (rows_with rows aside)
 count_roomier rows aside c h none unsaved =
-    let counts = count_put c [] (moved rows aside) (sorted_moved rows aside h) in
-    let zero : one_if (has_any (own c (moved rows aside))) ≡ 0 = ap (λ (o : Option (List Op)). one_if (has_any (or_nothing o))) (none_moved rows aside c none unsaved) in
-    let same : count_named (put client_cmp c [] (moved rows aside)) ≡ count_named (moved rows aside) = omega (arith, counts, zero) in
+    let counts = count_put c [] (rows_with rows aside) (sorted_moved rows aside h) in
+    let zero : one_if (has_any (own c (rows_with rows aside))) ≡ 0 = ap (λ (o : Option (List Op)). one_if (has_any (or_nothing o))) (none_moved rows aside c none unsaved) in
+    let same : count_named (put client_cmp c [] (rows_with rows aside)) ≡ count_named (rows_with rows aside) = omega (arith, counts, zero) in
     ap count_named (moved_place rows aside c h unsaved) ∙ same
 
 -- ---- who has a place keeps it
@@ -121,7 +121,7 @@ some_or : (x y : Option (List Op)) → IsSome y → IsSome (or_else x y)
 some_or None y h = h
 some_or (Some x) y h = refl
 
-pub room_moved : (q : List ℕ) (rows news : Rows) → IsSome (find client_cmp q rows) → IsSome (find client_cmp q (moved rows news))
+pub room_moved : (q : List ℕ) (rows news : Rows) → IsSome (find client_cmp q rows) → IsSome (find client_cmp q (rows_with rows news))
 room_moved q rows news h = subst (λ (o : Option (List Op)). IsSome o) (sym (find_in_moved q rows news)) (some_or (find client_cmp q news) (find client_cmp q rows) h)
 
 pub room_put : (q c : List ℕ) (v : List Op) (rows : Rows) → IsSome (find client_cmp q rows) → IsSome (find client_cmp q (put client_cmp c v rows))
@@ -164,15 +164,15 @@ pub begin_back : (rows : Rows) → count_named rows ≤ MOST_CLIENTS → CanGoBa
 begin_back rows h = record { room = tt; few = h }
 
 -- behind a commit of what lies aside
-pub commit_back : (rows news aside : Rows) → T (is_sorted client_cmp rows) → AreSaved aside news → CanGoBack rows aside → CanGoBack (moved rows news) aside × (flat (moved (moved rows news) aside) ≡ flat (moved rows aside))
+pub commit_back : (rows news aside : Rows) → T (is_sorted client_cmp rows) → AreSaved aside news → CanGoBack rows aside → CanGoBack (rows_with rows news) aside × (flat (rows_with (rows_with rows news) aside) ≡ flat (rows_with rows aside))
 commit_back rows news aside h saved can =
-    let same : moved (moved rows news) aside ≡ moved rows aside = moved_over rows news aside h (λ q none. covered q aside news saved none) in (
-      record { room = room_all rows (moved rows news) aside (λ q s. room_moved q rows news s) can.room; few = subst (λ (rs : Rows). count_named rs ≤ MOST_CLIENTS) (sym same) can.few },
+    let same : rows_with (rows_with rows news) aside ≡ rows_with rows aside = moved_over rows news aside h (λ q none. covered q aside news saved none) in (
+      record { room = room_all rows (rows_with rows news) aside (λ q s. room_moved q rows news s) can.room; few = subst (λ (rs : Rows). count_named rs ≤ MOST_CLIENTS) (sym same) can.few },
       ap flat same,
     )
 
 -- with an empty place more
-pub place_back : (rows aside : Rows) (c : List ℕ) → T (is_sorted client_cmp rows) → find client_cmp c rows ≡ None → CanGoBack rows aside → CanGoBack (put client_cmp c [] rows) aside × (flat (moved (put client_cmp c [] rows) aside) ≡ flat (moved rows aside))
+pub place_back : (rows aside : Rows) (c : List ℕ) → T (is_sorted client_cmp rows) → find client_cmp c rows ≡ None → CanGoBack rows aside → CanGoBack (put client_cmp c [] rows) aside × (flat (rows_with (put client_cmp c [] rows) aside) ≡ flat (rows_with rows aside))
 place_back rows aside c h none can =
     let unsaved : find client_cmp c aside ≡ None = covered c rows aside can.room none in (
       record {
@@ -184,9 +184,9 @@ place_back rows aside c h none can =
 
 -- with one row more aside
 pub save_back : (rows aside : Rows) (c : List ℕ) → T (is_sorted client_cmp rows) → IsSome (find client_cmp c rows) → find client_cmp c aside ≡ None → CanGoBack rows aside
-    → CanGoBack rows (put client_cmp c (own c rows) aside) × (moved rows (put client_cmp c (own c rows) aside) ≡ moved rows aside)
+    → CanGoBack rows (put client_cmp c (own c rows) aside) × (rows_with rows (put client_cmp c (own c rows) aside) ≡ rows_with rows aside)
 save_back rows aside c h is new can =
-    let same : moved rows (put client_cmp c (own c rows) aside) ≡ moved rows aside = moved_saved rows aside c h is new in (
+    let same : rows_with rows (put client_cmp c (own c rows) aside) ≡ rows_with rows aside = moved_saved rows aside c h is new in (
       record {
         room = all_put client_cmp client_exact (λ (k : List ℕ) (v : List Op). IsSome (find client_cmp k rows)) c (own c rows) aside is can.room;
         few = subst (λ (rs : Rows). count_named rs ≤ MOST_CLIENTS) (sym same) can.few;
@@ -210,7 +210,7 @@ sorted_rest x es h = second_of (below_all client_cmp x.0 es) (is_sorted client_c
 none_below : {X : Type 0} (x : List ℕ × X) (es : List (List ℕ × X)) → T (is_sorted client_cmp (x ∷ es)) → find client_cmp x.0 es ≡ None
 none_below x es h = find_below client_cmp x.0 es (first_of (below_all client_cmp x.0 es) (is_sorted client_cmp es) h)
 
-pub moved_first : (rows aside : Rows) (c : List ℕ) (ops : List Op) → T (is_sorted client_cmp rows) → T (is_sorted client_cmp ((c, ops) ∷ aside)) → moved (put client_cmp c ops rows) aside ≡ moved rows ((c, ops) ∷ aside)
+pub moved_first : (rows aside : Rows) (c : List ℕ) (ops : List Op) → T (is_sorted client_cmp rows) → T (is_sorted client_cmp ((c, ops) ∷ aside)) → rows_with (put client_cmp c ops rows) aside ≡ rows_with rows ((c, ops) ∷ aside)
 moved_first rows aside c ops h s = moved_put rows aside c ops h (none_below (c, ops) aside s)
 
 -- ---- no more of the clients have operations aside than do once those are put back
@@ -254,6 +254,6 @@ some_left (Some x) y h = h
 
 pub count_aside : (rows aside : Rows) → T (is_sorted client_cmp rows) → T (is_sorted client_cmp aside) → CanGoBack rows aside → count_named aside ≤ MOST_CLIENTS
 count_aside rows aside h s can =
-    let less : count_named aside ≤ count_named (moved rows aside) = fewer aside (moved rows aside) s (sorted_moved rows aside h)
+    let less : count_named aside ≤ count_named (rows_with rows aside) = fewer aside (rows_with rows aside) s (sorted_moved rows aside h)
     (λ q any. ap (λ (o : Option (List Op)). has_any (or_nothing o)) (find_in_moved q rows aside) ∙ some_left (find client_cmp q aside) (find client_cmp q rows) any) in
     omega (arith, less, can.few)

@@ -23,9 +23,9 @@ abbrev pub own : List ℕ → List (List ℕ × List Op) → List Op
 own c rows = or_nothing (find client_cmp c rows)
 
 -- the rows once a commit has put the fresh ones there, instead of those of the same clients
-abbrev pub moved : List (List ℕ × List Op) → List (List ℕ × List Op) → List (List ℕ × List Op)
-moved rows [] = rows
-moved rows (row ∷ fresh) = put client_cmp row.0 row.1 (moved rows fresh)
+abbrev pub rows_with : List (List ℕ × List Op) → List (List ℕ × List Op) → List (List ℕ × List Op)
+rows_with rows [] = rows
+rows_with rows (row ∷ fresh) = put client_cmp row.0 row.1 (rows_with rows fresh)
 
 -- whether there are operations
 abbrev pub has_any : List Op → Bool
@@ -40,7 +40,7 @@ count_named rows = length (filter (λ row. has_any row.1) rows)
 -- have operations.
 pub record CanGoBack (rows aside : List (List ℕ × List Op)) : Type 0 where
   pub room : AllByRecursion (λ row. IsSome (find client_cmp row.0 rows)) aside
-  pub few : count_named (moved rows aside) ≤ MOST_CLIENTS
+  pub few : count_named (rows_with rows aside) ≤ MOST_CLIENTS
 
 -- what is held of each of these clients lies aside
 abbrev pub AreSaved : {X : Type 0} → List (List ℕ × List Op) → List (List ℕ × X) → Type 0

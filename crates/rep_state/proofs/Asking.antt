@@ -9,7 +9,7 @@ use Rattle.std.specs.FinMap.Entries.{find-put}
 use Rattle.std.proofs.lemmas.Map.Views.{tells_apart}
 use Rattle.sn_topic.specs.Matching.{is_match}
 use Rattle.sn_tables.specs.Tables.{with_entry}
-use Rattle.sn_tables.specs.inner.Tables.{IsAt, IsGap, AllAbove}
+use Rattle.sn_tables.specs.inner.Tables.{IsFoundAt, IsGap, AllAbove}
 use Rattle.sn_tables.specs.Subscriptions.{asked_qos, subscribed_qos, or_greater}
 use Rattle.sn_session.specs.declared.session.Session.{Session}
 use Rattle.sn_tables.specs.declared.subscriptions.Subscription.{Subscription}
@@ -31,13 +31,13 @@ use Rattle.rep_state.specs.declared.places.Place.{Place}
 use Rattle.rep_log.specs.declared.log.Log.{Log}
 use Rattle.rep_entry.specs.declared.change.Change.{Change}
 use Rattle.rep_log.specs.Logs.{session_on}
-use Rattle.rep_entry.specs.Applied.{applied}
-use Rattle.rep_state.specs.Tables.{arrivals, names_at, rows_of, ArePlaces, IsKept, IsTable}
+use Rattle.rep_entry.specs.Applied.{entry_applied}
+use Rattle.rep_state.specs.Tables.{arrivals, names_at, rows_of, ArePlaces, IsKept, IsEntryTable}
 use Rattle.rep_state.specs.inner.Tables.{place_cmp}
 use Rattle.rep_entry.specs.Interests.{mark_of, has_mark, AskWithin, SessionWithin}
 use Rattle.rep_state.specs.Interests.{EntryWithin, AreMarked}
 use Rattle.rep_state.specs.inner.Groups.{held_of, or_nothing_held}
-use Rattle.rep_state.specs.inner.Interests.{marked, AreMarksOf, noted, NoneMarked, IsPassed, IsSilent, AreSilent, IsNext}
+use Rattle.rep_state.specs.inner.Interests.{marked, AreMarksOf, marks_noted, NoneMarked, IsPassed, IsSilent, AreSilent, IsNext}
 
 -- ---- a client without the mark does not ask
 
@@ -137,17 +137,17 @@ marked_as_before es new c e (p ∷ places) h is same = (one (eq_by_cmp client_cm
     one false t = subst (EntryWithin p.marks) (sym (found false t)) h.0
 
 -- the marks after a change
-pub marked_noted : (es new : List (List ℕ × Entry)) (c : List ℕ) (ch : Change) (marks : Option ℕ) (places : List Place) → AreMarked es places → new ≡ put client_cmp c (applied (held_of c es) ch) es → AreMarksOf ch.log marks → AreMarked new (noted c marks places)
+pub marked_noted : (es new : List (List ℕ × Entry)) (c : List ℕ) (ch : Change) (marks : Option ℕ) (places : List Place) → AreMarked es places → new ≡ put client_cmp c (entry_applied (held_of c es) ch) es → AreMarksOf ch.log marks → AreMarked new (marks_noted c marks places)
 marked_noted es new c ch marks places h is are = by ch.log marks refl are
   where
-    by : (log : Option Log) (marks : Option ℕ) → ch.log ≡ log → AreMarksOf log marks → AreMarked new (noted c marks places)
-    by None None e are = marked_as_before es new c (applied (held_of c es) ch) places h is (ap (session_on (held_of c es).seen.session) e)
+    by : (log : Option Log) (marks : Option ℕ) → ch.log ≡ log → AreMarksOf log marks → AreMarked new (marks_noted c marks places)
+    by None None e are = marked_as_before es new c (entry_applied (held_of c es) ch) places h is (ap (session_on (held_of c es).seen.session) e)
     by None (Some m) e are = some_none are
       where
         some_none : {P : Type 0} → Some m ≡ None → P
         some_none p = cc
     by (Some log) None e are = absurd are
-    by (Some log) (Some m) e are = marked_anew es new c (applied (held_of c es) ch) m places h is (subst (SessionWithin m) (sym (ap (session_on (held_of c es).seen.session) e)) are)
+    by (Some log) (Some m) e are = marked_anew es new c (entry_applied (held_of c es) ch) m places h is (subst (SessionWithin m) (sym (ap (session_on (held_of c es).seen.session) e)) are)
 
 -- marks move unmarked place
 pub places_marked : (entries : List (Vec ℕ Global × Entry)) (c : List ℕ) (marks : ℕ) (places : List Place) → ArePlaces entries places → ArePlaces entries (map (marked c marks) places)
@@ -172,7 +172,7 @@ places_marked entries c marks places h = record { names = names places ∙ h.nam
     each [] h = tt
     each (p ∷ places) h = (leads p (is_eq (client_cmp p.name c)) h.0, each places h.1)
 
-pub places_noted : (entries : List (Vec ℕ Global × Entry)) (c : List ℕ) (marks : Option ℕ) (places : List Place) → ArePlaces entries places → ArePlaces entries (noted c marks places)
+pub places_noted : (entries : List (Vec ℕ Global × Entry)) (c : List ℕ) (marks : Option ℕ) (places : List Place) → ArePlaces entries places → ArePlaces entries (marks_noted c marks places)
 places_noted entries c None places h = h
 places_noted entries c (Some m) places h = places_marked entries c m places h
 
@@ -191,7 +191,7 @@ module _ (c : List ℕ) (marks : ℕ) where
   gap_same [] (suc i) h = refl
   gap_same (p ∷ places) (suc i) h = let first = same_marked p Less h.0 refl in let rest = gap_same places i h.1 in λ j. first j ∷ rest j
 
-  pub set_marked : (places : List Place) (i : ℕ) (q : Place) → q ≡ get_or places i q → IsAt (λ (q : Place). client_cmp q.name c) places i → set places i (record { name = q.name; index = q.index; marks = marks }) ≡ map (marked c marks) places
+  pub set_marked : (places : List Place) (i : ℕ) (q : Place) → q ≡ get_or places i q → IsFoundAt (λ (q : Place). client_cmp q.name c) places i → set places i (record { name = q.name; index = q.index; marks = marks }) ≡ map (marked c marks) places
   set_marked [] i q is h = absurd h
   set_marked (p ∷ places) zero q is h =
       let here = ap (λ (p : Place). record { name = p.name; index = p.index; marks = marks }) is in
@@ -262,7 +262,7 @@ module _ (topic : List ℕ) (es : List (List ℕ × Entry)) (cs : List (List ℕ
 
 -- ---- what a view says of a client that is silent
 
-module _ (topic : List ℕ) (es : List (List ℕ × Entry)) (n : ℕ) (t : IsTable es n) where
+module _ (topic : List ℕ) (es : List (List ℕ × Entry)) (n : ℕ) (t : IsEntryTable es n) where
   pub silent_view : (c : List ℕ) → IsSilent topic (find client_cmp c es) → is_subscribed topic (view c (flat (rows_of es))) ≡ false
   silent_view c h =
       let shown : view c (flat (rows_of es)) ≡ view c (own c (rows_of es)) = view_own c (flat (rows_of es)) ∙ ap (view c) (of_flat c (rows_of es) (table_rows es n t)) in

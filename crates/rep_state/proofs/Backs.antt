@@ -15,7 +15,7 @@ use Rattle.rep_op.specs.Orders.{client_cmp}
 use Rattle.rep_model.specs.declared.fault.TheConstants.{MOST_CLIENTS}
 use Rattle.rep_model.proofs.Readers.{client_total, client_exact}
 use Rattle.rep_model.proofs.Joins.{all-both, all-weaker}
-use Rattle.rep_shared.specs.Rows.{flat, own, or_nothing, moved, has_any, count_named, CanGoBack, AreSaved}
+use Rattle.rep_shared.specs.Rows.{flat, own, or_nothing, rows_with, has_any, count_named, CanGoBack, AreSaved}
 use Rattle.rep_shared.proofs.Flat.{all_put, count_put, head_count, one_if}
 use Rattle.rep_shared.proofs.Counting.{all_found}
 use Rattle.rep_shared.proofs.Undo.{save_back, moved_saved, moved_swap, count_aside, room_put}
@@ -23,14 +23,14 @@ use Rattle.sn_tables.specs.Tables.{with_entry}
 use Rattle.sn_tables.proofs.Ascending.{all_with}
 use Rattle.rep_entry.specs.declared.entry.Entry.{Entry}
 use Rattle.rep_entry.specs.declared.change.Change.{Change}
-use Rattle.rep_entry.specs.Entries.{row_of}
+use Rattle.rep_entry.specs.Entries.{entry_row}
 use Rattle.rep_entry.specs.Interests.{SessionWithin}
 use Rattle.rep_entry.specs.Staging.{staged_of, AreReady}
 use Rattle.rep_entry.proofs.Owning.{found_holds}
 use Rattle.rep_state.specs.declared.places.Place.{Place}
-use Rattle.rep_state.specs.Tables.{by_client, rows_of, names_at, IsKept, AreKept, IsTable}
+use Rattle.rep_state.specs.Tables.{by_client, rows_of, names_at, IsKept, AreKept, IsEntryTable}
 use Rattle.rep_state.specs.Interests.{EntryWithin, AreMarked}
-use Rattle.rep_state.specs.inner.Staging.{HaveRoom}
+use Rattle.rep_state.specs.inner.Staging.{HavePlaces}
 use Rattle.rep_state.specs.inner.Tables.{place_cmp, IsSaving, HaveTheirPlaces, AreKeptAside}
 use Rattle.rep_state.proofs.Rows.{find_rows, rows_put, sorted_rows, put_by_client, found_by_client}
 use Rattle.rep_state.proofs.Placing.{there_put}
@@ -49,7 +49,7 @@ pub rows_sorted : (es : Entries) → T (is_sorted client_cmp es) → T (is_sorte
 rows_sorted es h = subst T (sym (sorted_rows es)) h
 
 pub none_of_rows : (c : List ℕ) (es : Entries) → find client_cmp c es ≡ None → find client_cmp c (rows_of es) ≡ None
-none_of_rows c es absent = find_rows c es ∙ ap (option_map (row_of c)) absent
+none_of_rows c es absent = find_rows c es ∙ ap (option_map (entry_row c)) absent
 
 -- ---- more lies aside
 
@@ -64,26 +64,26 @@ saving_then h k = record {
 }
 
 module _ (es new : Entries) (c : List ℕ) (e : Entry) (at : new ≡ put client_cmp c e es) (absent : find client_cmp c es ≡ None) where
-  with_row : rows_of new ≡ put client_cmp c (row_of c e) (rows_of es)
+  with_row : rows_of new ≡ put client_cmp c (entry_row c e) (rows_of es)
   with_row = ap rows_of at ∙ rows_put c e es
 
-  pub saving_more : (rows : Rows) → T (is_sorted client_cmp rows) → IsSome (find client_cmp c rows) → own c rows ≡ row_of c e → IsSaving rows (rows_of es) (rows_of new)
+  pub saving_more : (rows : Rows) → T (is_sorted client_cmp rows) → IsSome (find client_cmp c rows) → own c rows ≡ entry_row c e → IsSaving rows (rows_of es) (rows_of new)
   saving_more rows sorted there own_is =
       let none = none_of_rows c es absent in
       let row : rows_of new ≡ put client_cmp c (own c rows) (rows_of es) = with_row ∙ sym (ap (λ (ops : List Op). put client_cmp c ops (rows_of es)) own_is) in
       record {
         can = λ can. subst (CanGoBack rows) (sym row) (save_back rows (rows_of es) c sorted there none can).0;
-        same = ap (moved rows) row ∙ moved_saved rows (rows_of es) c sorted there none;
+        same = ap (rows_with rows) row ∙ moved_saved rows (rows_of es) c sorted there none;
         found = λ q h. subst (λ (rs : Rows). IsSome (find client_cmp q rs)) (sym row) (room_put q c (own c rows) (rows_of es) h);
       }
 
   -- one more of them has operations, or as many as before
-  pub aside_more : (n m : ℕ) → IsTable es n → IsKept c e → m ≡ n + one_if (has_any (row_of c e)) → count_named (put client_cmp c (row_of c e) (rows_of es)) ≤ MOST_CLIENTS → IsTable new m
+  pub aside_more : (n m : ℕ) → IsEntryTable es n → IsKept c e → m ≡ n + one_if (has_any (entry_row c e)) → count_named (put client_cmp c (entry_row c e) (rows_of es)) ≤ MOST_CLIENTS → IsEntryTable new m
   aside_more n m t entry count few =
-      let counts = count_put c (row_of c e) (rows_of es) (rows_sorted es t.sorted) in
+      let counts = count_put c (entry_row c e) (rows_of es) (rows_sorted es t.sorted) in
       let none : one_if (has_any (own c (rows_of es))) ≡ 0 = ap (λ (o : Option (List Op)). one_if (has_any (or_nothing o))) (none_of_rows c es absent) in
       let before = t.counted in
-      let all : m ≡ count_named (put client_cmp c (row_of c e) (rows_of es)) = omega (arith, counts, none, count, before) in
+      let all : m ≡ count_named (put client_cmp c (entry_row c e) (rows_of es)) = omega (arith, counts, none, count, before) in
       record {
         sorted = subst (λ (es : Entries). T (is_sorted client_cmp es)) (sym at) (is_sorted-put client_cmp client_total c e es t.sorted);
         each = subst AreKept (sym at) (all_put client_cmp client_exact IsKept c e es entry t.each);
@@ -92,10 +92,10 @@ module _ (es new : Entries) (c : List ℕ) (e : Entry) (at : new ≡ put client_
       }
 
   pub row_there : IsSome (find client_cmp c (rows_of new))
-  row_there = subst (λ (o : Option (List Op)). IsSome o) (sym (ap (find client_cmp c) with_row ∙ there_put c (row_of c e) (rows_of es))) refl
+  row_there = subst (λ (o : Option (List Op)). IsSome o) (sym (ap (find client_cmp c) with_row ∙ there_put c (entry_row c e) (rows_of es))) refl
 
 -- there is room for a row more
-pub few_more : (rows : Rows) (xs : Entries) (n : ℕ) (c : List ℕ) (S : List Op) → T (is_sorted client_cmp rows) → IsTable xs n → CanGoBack rows (rows_of xs) → IsSome (find client_cmp c rows) → find client_cmp c xs ≡ None → own c rows ≡ S → count_named (put client_cmp c S (rows_of xs)) ≤ MOST_CLIENTS
+pub few_more : (rows : Rows) (xs : Entries) (n : ℕ) (c : List ℕ) (S : List Op) → T (is_sorted client_cmp rows) → IsEntryTable xs n → CanGoBack rows (rows_of xs) → IsSome (find client_cmp c rows) → find client_cmp c xs ≡ None → own c rows ≡ S → count_named (put client_cmp c S (rows_of xs)) ≤ MOST_CLIENTS
 few_more rows xs n c S sorted t can there absent own_is =
     let order = rows_sorted xs t.sorted in
     subst (λ (ops : List Op). count_named (put client_cmp c ops (rows_of xs)) ≤ MOST_CLIENTS) own_is
@@ -123,8 +123,8 @@ pub saving_can : (rows now old aside new : Rows) → rows ≡ now → old ≡ as
 saving_can rows now old aside new p q s can =
     subst (λ (rs : Rows). CanGoBack rs new) p (s.can (subst (CanGoBack rows) (sym q) (subst (λ (rs : Rows). CanGoBack rs aside) (sym p) can)))
 
-pub saving_same : (rows now old aside new : Rows) → rows ≡ now → old ≡ aside → IsSaving rows old new → flat (moved now new) ≡ flat (moved now aside)
-saving_same rows now old aside new p q s = sym (ap (λ (rs : Rows). flat (moved rs new)) p) ∙ ap flat s.same ∙ (λ i. flat (moved (p i) (q i)))
+pub saving_same : (rows now old aside new : Rows) → rows ≡ now → old ≡ aside → IsSaving rows old new → flat (rows_with now new) ≡ flat (rows_with now aside)
+saving_same rows now old aside new p q s = sym (ap (λ (rs : Rows). flat (rows_with rs new)) p) ∙ ap flat s.same ∙ (λ i. flat (rows_with (p i) (q i)))
 
 -- ---- one place more, with marks of its own
 
@@ -180,11 +180,11 @@ module _ (k : Vec ℕ Global) (x : Entry) (all rest : Table) (is : all ≡ rest 
   pub none_left : find client_cmp k.items (by_client rest) ≡ None
   none_left = sym (found_by_client k.items rest) ∙ gone
 
-  last_rows : rows_of (by_client all) ≡ put client_cmp k.items (row_of k.items x) (rows_of (by_client rest))
+  last_rows : rows_of (by_client all) ≡ put client_cmp k.items (entry_row k.items x) (rows_of (by_client rest))
   last_rows = ap rows_of last_by_client ∙ rows_put k.items x (by_client rest)
 
   pub last_there : IsSome (find client_cmp k.items (rows_of (by_client all)))
-  last_there = subst (λ (o : Option (List Op)). IsSome o) (sym (ap (find client_cmp k.items) last_rows ∙ there_put k.items (row_of k.items x) (rows_of (by_client rest)))) refl
+  last_there = subst (λ (o : Option (List Op)). IsSome o) (sym (ap (find client_cmp k.items) last_rows ∙ there_put k.items (entry_row k.items x) (rows_of (by_client rest)))) refl
 
   pub last_kept : AreKeptAside (by_client all) → IsKept k.items x
   last_kept h = h k.items x (ap (find client_cmp k.items) last_by_client ∙ find-put client_cmp client_total k.items k.items x (by_client rest) ∙ ap (λ r. cond (is_eq r) (Some x) (find client_cmp k.items (by_client rest))) (tied_itself client_total k.items))
@@ -200,19 +200,19 @@ module _ (k : Vec ℕ Global) (x : Entry) (all rest : Table) (is : all ≡ rest 
 
 -- it goes back
 module _ (k : Vec ℕ Global) (x : Entry) (all rest : Table) (is : all ≡ rest ++ (k, x) ∷ []) (gone : lookup (λ (j : Vec ℕ Global). bytes_eq k.items j.items) rest ≡ None) (es new : Entries) (at : new ≡ put client_cmp k.items x es) where
-  new_rows : rows_of new ≡ put client_cmp k.items (row_of k.items x) (rows_of es)
+  new_rows : rows_of new ≡ put client_cmp k.items (entry_row k.items x) (rows_of es)
   new_rows = ap rows_of at ∙ rows_put k.items x es
 
-  pub rest_moved : T (is_sorted client_cmp es) → moved (rows_of new) (rows_of (by_client rest)) ≡ moved (rows_of es) (rows_of (by_client all))
+  pub rest_moved : T (is_sorted client_cmp es) → rows_with (rows_of new) (rows_of (by_client rest)) ≡ rows_with (rows_of es) (rows_of (by_client all))
   rest_moved sorted =
-      ap (λ (rs : Rows). moved rs (rows_of (by_client rest))) new_rows
-      ∙ moved_swap (rows_of es) (rows_of (by_client rest)) k.items (row_of k.items x) (rows_sorted es sorted) (none_of_rows k.items (by_client rest) (none_left k x all rest is gone))
-      ∙ sym (ap (moved (rows_of es)) (last_rows k x all rest is gone))
+      ap (λ (rs : Rows). rows_with rs (rows_of (by_client rest))) new_rows
+      ∙ moved_swap (rows_of es) (rows_of (by_client rest)) k.items (entry_row k.items x) (rows_sorted es sorted) (none_of_rows k.items (by_client rest) (none_left k x all rest is gone))
+      ∙ sym (ap (rows_with (rows_of es)) (last_rows k x all rest is gone))
 
   pub rest_room : HaveTheirPlaces es (by_client all) → HaveTheirPlaces new (by_client rest)
   rest_room h = λ q s.
-      let there = h q (subst (λ (rs : Rows). IsSome (find client_cmp q rs)) (sym (last_rows k x all rest is gone)) (room_put q k.items (row_of k.items x) (rows_of (by_client rest)) s)) in
-      subst (λ (rs : Rows). IsSome (find client_cmp q rs)) (sym new_rows) (room_put q k.items (row_of k.items x) (rows_of es) there)
+      let there = h q (subst (λ (rs : Rows). IsSome (find client_cmp q rs)) (sym (last_rows k x all rest is gone)) (room_put q k.items (entry_row k.items x) (rows_of (by_client rest)) s)) in
+      subst (λ (rs : Rows). IsSome (find client_cmp q rs)) (sym new_rows) (room_put q k.items (entry_row k.items x) (rows_of es) there)
 
   pub new_kept : AreKept es → IsKept k.items x → AreKept new
   new_kept h here = subst AreKept (sym at) (all_put client_cmp client_exact IsKept k.items x es here h)
@@ -226,7 +226,7 @@ empty_of (e ∷ es) h = let more : 0 < length (e ∷ es) = omega arith in absurd
 pub entry_there : (c : List ℕ) (es : Entries) → IsSome (find client_cmp c (rows_of es)) → IsSome (find client_cmp c es)
 entry_there c es h = mapped (find client_cmp c es) (subst (λ (o : Option (List Op)). IsSome o) (find_rows c es) h)
   where
-    mapped : (o : Option Entry) → IsSome (option_map (row_of c) o) → IsSome o
+    mapped : (o : Option Entry) → IsSome (option_map (entry_row c) o) → IsSome o
     mapped None h = h
     mapped (Some e) h = refl
 
@@ -235,13 +235,13 @@ kept_aside es h = λ c e found. found_holds client_cmp client_exact IsKept c e e
 
 -- ---- how many have operations
 
-pub count_at : (es : Entries) (i : ℕ) (x : List ℕ × Entry) (b : Bool) → drop i es ≡ x ∷ drop (i + 1) es → b ≡ has_any (row_of x.0 x.1) → count_named (rows_of (drop i es)) ≡ one_if b + count_named (rows_of (drop (i + 1) es))
+pub count_at : (es : Entries) (i : ℕ) (x : List ℕ × Entry) (b : Bool) → drop i es ≡ x ∷ drop (i + 1) es → b ≡ has_any (entry_row x.0 x.1) → count_named (rows_of (drop i es)) ≡ one_if b + count_named (rows_of (drop (i + 1) es))
 count_at es i x b is any =
     ap (λ (xs : Entries). count_named (rows_of xs)) is
-    ∙ head_count (x.0, row_of x.0 x.1) (rows_of (drop (i + 1) es))
+    ∙ head_count (x.0, entry_row x.0 x.1) (rows_of (drop (i + 1) es))
     ∙ ap (λ (b : Bool). one_if b + count_named (rows_of (drop (i + 1) es))) (sym any)
 
 -- whose change is ready has a place
-pub ready_room : (es : Entries) (gs : List (List ℕ × Change)) → AreReady (rows_of es) gs → HaveRoom es gs
+pub ready_room : (es : Entries) (gs : List (List ℕ × Change)) → AreReady (rows_of es) gs → HavePlaces es gs
 ready_room es [] h = tt
 ready_room es (g ∷ gs) h = (h.0.is_there, ready_room es gs h.1)

@@ -8,13 +8,13 @@ use Rattle.rep_model.specs.Keep.{IsKeptOf}
 use Rattle.rep_model.specs.Limits.{first_passed}
 use Rattle.rep_model.proofs.Limits.{first_passed-thin}
 use Rattle.rep_model.proofs.Thin.{thin-between}
-use Rattle.rep_shared.specs.Rows.{flat, own, moved, has_any, count_named}
+use Rattle.rep_shared.specs.Rows.{flat, own, rows_with, has_any, count_named}
 use Rattle.rep_shared.specs.inner.Rows.{count_new, of_client}
 use Rattle.rep_shared.proofs.Flat.{of_flat}
 use Rattle.rep_shared.proofs.Counting.{count_moved}
 use Rattle.rep_entry.specs.declared.entry.Entry.{Entry}
 use Rattle.rep_entry.specs.Entries.{IsEntry}
-use Rattle.rep_state.specs.Tables.{rows_of, AreKept, IsTable}
+use Rattle.rep_state.specs.Tables.{rows_of, AreKept, IsEntryTable}
 use Rattle.rep_state.specs.inner.Tables.{IsRoomier, passed_by, too_many_pending, too_many_parked, too_many_exceptions}
 use Rattle.rep_state.specs.inner.Groups.{AreRowsOf}
 use Rattle.rep_state.proofs.Rows.{table_rows}
@@ -24,22 +24,22 @@ use Rattle.rep_state.proofs.Passing.{AreFresh, first_passed_after}
 
 -- ---- the fresh entries, where their rows are those of the delta
 
-module _ (es : List (List ℕ × Entry)) (n : ℕ) (t : IsTable es n) (D : List Op) (fs : List (List ℕ × Entry)) (h : AreFresh fs) (rows : AreRowsOf es D (rows_of fs)) where
+module _ (es : List (List ℕ × Entry)) (n : ℕ) (t : IsEntryTable es n) (D : List Op) (fs : List (List ℕ × Entry)) (h : AreFresh fs) (rows : AreRowsOf es D (rows_of fs)) where
   pub own_room : (room : List (List ℕ × Entry)) → IsRoomier es room → (c : List ℕ) → own c (rows_of room) ≡ own c (rows_of es)
   own_room room r c = sym (of_flat c (rows_of room) (table_rows room n (r.table n t))) ∙ ap (of_client c) r.same ∙ of_flat c (rows_of es) (table_rows es n t)
 
   -- the set that is kept after the commit is what must be kept of all
-  pub kept_after : (room : List (List ℕ × Entry)) → IsRoomier es room → IsKeptOf (flat (rows_of es) ++ D) (flat (moved (rows_of room) (rows_of fs)))
-  kept_after room r = kept_between (flat (rows_of es) ++ D) (flat (moved (rows_of room) (rows_of fs)))
+  pub kept_after : (room : List (List ℕ × Entry)) → IsRoomier es room → IsKeptOf (flat (rows_of es) ++ D) (flat (rows_with (rows_of room) (rows_of fs)))
+  kept_after room r = kept_between (flat (rows_of es) ++ D) (flat (rows_with (rows_of room) (rows_of fs)))
       (same_after es D (rows_of fs) (rows_of room) t.each rows (table_rows es n t) (table_rows room n (r.table n t)) h.owned (own_room room r))
 
   -- the limit that is passed
   pub first_passed_both : (m : ℕ) → m ≡ n + count_new (rows_of es) (rows_of fs) → IsRoomier es es → passed_by m fs ≡ first_passed (flat (rows_of es) ++ D)
   first_passed_both m is r =
       first_passed_after es fs (table_rows es n t) t.each h m (is ∙ ap (λ n. n + count_new (rows_of es) (rows_of fs)) t.counted)
-      ∙ first_passed-thin (flat (moved (rows_of es) (rows_of fs))) (flat (rows_of es) ++ D) (thin-between (flat (rows_of es) ++ D) (flat (moved (rows_of es) (rows_of fs))) (kept_after es r))
+      ∙ first_passed-thin (flat (rows_with (rows_of es) (rows_of fs))) (flat (rows_of es) ++ D) (thin-between (flat (rows_of es) ++ D) (flat (rows_with (rows_of es) (rows_of fs))) (kept_after es r))
 
-  pub counted_after : (room : List (List ℕ × Entry)) → IsRoomier es room → (m : ℕ) → m ≡ n + count_new (rows_of es) (rows_of fs) → m ≡ count_named (moved (rows_of room) (rows_of fs))
+  pub counted_after : (room : List (List ℕ × Entry)) → IsRoomier es room → (m : ℕ) → m ≡ n + count_new (rows_of es) (rows_of fs) → m ≡ count_named (rows_with (rows_of room) (rows_of fs))
   counted_after room r m is =
       is ∙ ap (λ k. k + count_new (rows_of es) (rows_of fs)) (r.table n t).counted
       ∙ sym (λ i. count_named (rows_of room) + count_by (λ (row : List ℕ × List Op). not (has_any (own_room room r row.0 i))) (rows_of fs))

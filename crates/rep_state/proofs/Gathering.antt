@@ -5,7 +5,7 @@ use Rattle.std.specs.List.{AllByRecursion}
 use Rattle.std.specs.Ordering.{ordering_reverse}
 use Rattle.std.specs.FinMap.{put, is_sorted}
 use Rattle.std.specs.FinMap.Entries.{by_order}
-use Rattle.sn_tables.specs.inner.Tables.{IsAt, IsGap}
+use Rattle.sn_tables.specs.inner.Tables.{IsFoundAt, IsGap}
 use Rattle.sn_tables.proofs.Ascending.{Ascends}
 use Rattle.rep_log.proofs.Sorting.{ascends, behind_last}
 
@@ -27,7 +27,7 @@ all_at P (e ∷ es) zero x h is = subst P (same is) h.0
 all_at P (e ∷ es) (suc k) x h is = all_at P es k x h.1 is
 
 -- what stands somewhere stands within the list
-pub at_in : {E : Type 0} (sought : E → Ordering) (es : List E) (i : ℕ) → IsAt sought es i → i < length es
+pub at_in : {E : Type 0} (sought : E → Ordering) (es : List E) (i : ℕ) → IsFoundAt sought es i → i < length es
 at_in sought [] i h = absurd h
 at_in sought (e ∷ es) zero h = omega arith
 at_in sought (e ∷ es) (suc i) h = let r = at_in sought es i h.1 in omega (arith, r)
@@ -37,7 +37,7 @@ module _ {K X : Type 0} (R : K → K → Ordering) where
   gap_end q [] h = tt
   gap_end q (e ∷ es) h = (h.0, gap_end q es h.1)
 
-  at_end : (q : K) (es : List (K × X)) (k : ℕ) (last : K × X) → Ascends (λ (x y : K × X). R x.0 y.0) es → length es ≡ suc k → slice_get es k ≡ Some last → last.0 ≡ q → R last.0 q ≡ Equal → IsAt (λ (e : K × X). R e.0 q) es k
+  at_end : (q : K) (es : List (K × X)) (k : ℕ) (last : K × X) → Ascends (λ (x y : K × X). R x.0 y.0) es → length es ≡ suc k → slice_get es k ≡ Some last → last.0 ≡ q → R last.0 q ≡ Equal → IsFoundAt (λ (e : K × X). R e.0 q) es k
   at_end q [] k last h long is same equal = absurd (none k long)
     where
       none : (k : ℕ) → 0 ≡ suc k → ⊥
@@ -67,17 +67,17 @@ module _ {K X : Type 0} (R : K → K → Ordering) where
         gap_end q (e ∷ es) (behind_last R total q (e ∷ es) (length es) last (ascends R (e ∷ es) h) refl (ap (slice_get (e ∷ es)) (one_less (length es)) ∙ is) less)
 
     -- the last is the one
-    pub at_last : (es : List (K × X)) (last : K × X) → T (is_sorted R es) → slice_get es (length es - 1) ≡ Some last → last.0 ≡ q → R last.0 q ≡ Equal → IsAt (λ (e : K × X). R e.0 q) es (length es - 1)
+    pub at_last : (es : List (K × X)) (last : K × X) → T (is_sorted R es) → slice_get es (length es - 1) ≡ Some last → last.0 ≡ q → R last.0 q ≡ Equal → IsFoundAt (λ (e : K × X). R e.0 q) es (length es - 1)
     at_last [] last h is same equal = absurd (none_some is)
       where
         none_some : None ≡ Some last → ⊥
         none_some p = cc
     at_last (e ∷ es) last h is same equal =
-        subst (λ k. IsAt (λ (d : K × X). R d.0 q) (e ∷ es) k) (one_less (length es))
+        subst (λ k. IsFoundAt (λ (d : K × X). R d.0 q) (e ∷ es) k) (one_less (length es))
         (at_end q (e ∷ es) (length es) last (ascends R (e ∷ es) h) refl (ap (slice_get (e ∷ es)) (one_less (length es)) ∙ is) same equal)
 
     -- an entry is changed where it stands
-    pub put_at : (v : X) (es : List (K × X)) (i : ℕ) (x : K × X) → x ≡ get_or es i x → IsAt (λ (e : K × X). R e.0 q) es i → set es i (x.0, v) ≡ put R q v es
+    pub put_at : (v : X) (es : List (K × X)) (i : ℕ) (x : K × X) → x ≡ get_or es i x → IsFoundAt (λ (e : K × X). R e.0 q) es i → set es i (x.0, v) ≡ put R q v es
     put_at v [] i x is h = absurd h
     put_at v (e ∷ es) zero x is h =
         ap (λ (y : K × X). (y.0, v) ∷ es) is

@@ -16,15 +16,15 @@ use Rattle.rep_model.proofs.Lookup.{or_else}
 use Rattle.rep_model.proofs.Readers.{client_exact, operation_at_keep, put_at_keep, is_acknowledged_keep, retain_at_keep}
 use Rattle.rep_model.proofs.Joins.{counts-between}
 use Rattle.rep_model.proofs.Named.{is_named-counts}
-use Rattle.rep_shared.specs.Rows.{flat, own, or_nothing, moved, has_any, IsOwn}
+use Rattle.rep_shared.specs.Rows.{flat, own, or_nothing, rows_with, has_any, IsOwn}
 use Rattle.rep_shared.specs.inner.Rows.{of_client, AreRows}
 use Rattle.rep_shared.proofs.Single.{operation_at_own, put_at_own, is_acknowledged_own, visible_own, retains_own, retain_at_own}
 use Rattle.rep_shared.proofs.Flat.{of_flat, find_in_moved, rows_moved, named_any}
 use Rattle.rep_entry.specs.declared.entry.Entry.{Entry}
 use Rattle.rep_entry.specs.declared.fresh.Fresh.{Fresh}
-use Rattle.rep_entry.specs.Entries.{row_of, IsFresh, fresh_row}
+use Rattle.rep_entry.specs.Entries.{entry_row, IsFresh, fresh_row}
 use Rattle.rep_state.specs.Tables.{rows_of, AreKept, IsKept}
-use Rattle.rep_state.specs.inner.Groups.{held_of, IsTaken, IsGroup, IsGroupOf, AreGroups, fresh_rows, IsRowOf, AreRowsOf}
+use Rattle.rep_state.specs.inner.Groups.{held_of, IsKeptAfter, IsGroup, IsGroupOf, AreGroups, fresh_rows, IsRowOf, AreRowsOf}
 use Rattle.rep_entry.proofs.Steps.{kept_step, kept_between}
 use Rattle.rep_state.proofs.Entering.{keeps_row}
 use Rattle.rep_state.proofs.Rows.{find_rows}
@@ -41,7 +41,7 @@ any_behind (x ∷ ops) op = refl
 
 -- the client of the operation, of whom these must be kept so far
 pub group_more : (c : List ℕ) (es : List (List ℕ × Entry)) (D : List Op) (op : Op) (ops : List Op) (new : Fresh) → same_client c (client_of op) ≡ true
-    → IsTaken c es D ops
+    → IsKeptAfter c es D ops
     → IsFresh c (held_of c es) new × Same (fresh_row c (held_of c es) new) (keep (ops ++ op ∷ []))
     → IsGroup c es (D ++ op ∷ []) new
 group_more c es D op ops new mine taken more =
@@ -80,17 +80,17 @@ nothing_said c ops h = subst (λ S. Same ops (keep S)) (sym (append-nil ops)) h
 pub own_keeps : (c : List ℕ) (es : List (List ℕ × Entry)) → AreKept es → Same (own c (rows_of es)) (keep (own c (rows_of es)))
 own_keeps c es each = subst (λ o. Same (or_nothing o) (keep (or_nothing o))) (sym (find_rows c es)) (at (find client_cmp c es) refl)
   where
-    at : (o : Option Entry) → find client_cmp c es ≡ o → Same (or_nothing (option_map (row_of c) o)) (keep (or_nothing (option_map (row_of c) o)))
+    at : (o : Option Entry) → find client_cmp c es ≡ o → Same (or_nothing (option_map (entry_row c) o)) (keep (or_nothing (option_map (entry_row c) o)))
     at None e = record { operations_same = λ c name. refl; puts_same = λ c name. refl; acknowledgements_same = λ c name. refl; retains_same = λ t name. refl }
     at (Some x) e = keeps_row c x (found_holds client_cmp client_exact IsKept c x es each e).entry_is
 
 module _ (es : List (List ℕ × Entry)) (D : List Op) (rows : List (List ℕ × List Op)) (each : AreKept es) (h : AreRowsOf es D rows) where
   -- what is kept of each client once the rows are in their places
-  pub own_taken : (room : List (List ℕ × List Op)) → ((c : List ℕ) → own c room ≡ own c (rows_of es)) → (c : List ℕ) → IsTaken c es D (own c (moved room rows))
-  own_taken room same c = subst (λ ops. IsTaken c es D ops) (sym (ap or_nothing (find_in_moved c room rows))) (at (find client_cmp c rows) (h c))
+  pub own_taken : (room : List (List ℕ × List Op)) → ((c : List ℕ) → own c room ≡ own c (rows_of es)) → (c : List ℕ) → IsKeptAfter c es D (own c (rows_with room rows))
+  own_taken room same c = subst (λ ops. IsKeptAfter c es D ops) (sym (ap or_nothing (find_in_moved c room rows))) (at (find client_cmp c rows) (h c))
     where
-      at : (o : Option (List Op)) → IsRowOf c es D o → IsTaken c es D (or_nothing (or_else o (find client_cmp c room)))
-      at None none = subst (λ ops. IsTaken c es D ops) (sym (same c)) (subst (λ ops. Same (own c (rows_of es)) (keep (own c (rows_of es) ++ ops))) (sym none) (nothing_said c (own c (rows_of es)) (own_keeps c es each)))
+      at : (o : Option (List Op)) → IsRowOf c es D o → IsKeptAfter c es D (or_nothing (or_else o (find client_cmp c room)))
+      at None none = subst (λ ops. IsKeptAfter c es D ops) (sym (same c)) (subst (λ ops. Same (own c (rows_of es)) (keep (own c (rows_of es) ++ ops))) (sym none) (nothing_said c (own c (rows_of es)) (own_keeps c es each)))
       at (Some ops) is = is.0
 
 -- sets that have of each client what must be kept of the other's
@@ -108,14 +108,14 @@ same_kept_by_client A W h = record {
 
 -- what is kept after the commit
 pub same_after : (es : List (List ℕ × Entry)) (D : List Op) (rows room : List (List ℕ × List Op)) → AreKept es → AreRowsOf es D rows → AreRows (rows_of es) → AreRows room → AllByRecursion (λ row. IsOwn row.0 row.1) rows
-    → ((c : List ℕ) → own c room ≡ own c (rows_of es)) → Same (flat (moved room rows)) (keep (flat (rows_of es) ++ D))
-same_after es D rows room each h are place owned same = same_kept_by_client (flat (moved room rows)) (flat (rows_of es) ++ D) (λ c.
-    let left = of_flat c (moved room rows) (rows_moved room rows place owned) in
+    → ((c : List ℕ) → own c room ≡ own c (rows_of es)) → Same (flat (rows_with room rows)) (keep (flat (rows_of es) ++ D))
+same_after es D rows room each h are place owned same = same_kept_by_client (flat (rows_with room rows)) (flat (rows_of es) ++ D) (λ c.
+    let left = of_flat c (rows_with room rows) (rows_moved room rows place owned) in
     let right = filter-append (λ op. same_client c (client_of op)) (flat (rows_of es)) D ∙ ap (λ ops. ops ++ of_client c D) (of_flat c (rows_of es) are) in
-    subst (λ S. Same S (keep (of_client c (flat (rows_of es) ++ D)))) (sym left) (subst (λ S. Same (own c (moved room rows)) (keep S)) (sym right) (own_taken es D rows each h room same c)))
+    subst (λ S. Same S (keep (of_client c (flat (rows_of es) ++ D)))) (sym left) (subst (λ S. Same (own c (rows_with room rows)) (keep S)) (sym right) (own_taken es D rows each h room same c)))
 
 -- a row that the list names has operations
-pub any_taken : (c : List ℕ) (es : List (List ℕ × Entry)) (D ops : List Op) → IsOwn c ops → IsOwn c (own c (rows_of es) ++ of_client c D) → has_any (of_client c D) ≡ true → IsTaken c es D ops → has_any ops ≡ true
+pub any_taken : (c : List ℕ) (es : List (List ℕ × Entry)) (D ops : List Op) → IsOwn c ops → IsOwn c (own c (rows_of es) ++ of_client c D) → has_any (of_client c D) ≡ true → IsKeptAfter c es D ops → has_any ops ≡ true
 any_taken c es D ops mine all any taken =
     let W = own c (rows_of es) ++ of_client c D in
     sym (named_any c ops mine)

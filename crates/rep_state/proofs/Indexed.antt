@@ -16,7 +16,7 @@ use Rattle.rep_model.proofs.Lookup.{is_sorted-in_order}
 use Rattle.rep_model.proofs.Readers.{client_total, client_exact}
 use Rattle.rep_shared.proofs.Counting.{all_found}
 use Rattle.sn_tables.specs.Tables.{is_ascending, with_entry}
-use Rattle.sn_tables.specs.inner.Tables.{IsAt, IsGap}
+use Rattle.sn_tables.specs.inner.Tables.{IsFoundAt, IsGap}
 use Rattle.sn_tables.proofs.Ascending.{Ascends, to_test, all_with, less}
 use Rattle.sn_tables.proofs.Places.{with_at, with_gap}
 use Rattle.rep_entry.specs.declared.entry.Entry.{Entry}
@@ -219,7 +219,7 @@ ascend_tested places h = Rattle.sn_tables.proofs.Ascending.from_test place_cmp p
 turns : (p q : Place) → place_cmp p q ≡ ordering_reverse (client_cmp q.name p.name)
 turns p q = client_total.antisymm p.name q.name
 
-pub set_is : (places : List Place) (i : ℕ) (p : Place) → IsAt (λ q. client_cmp q.name p.name) places i → Rattle.std.proofs.Common.set places i p ≡ with_entry place_cmp p places
+pub set_is : (places : List Place) (i : ℕ) (p : Place) → IsFoundAt (λ q. client_cmp q.name p.name) places i → Rattle.std.proofs.Common.set places i p ≡ with_entry place_cmp p places
 set_is places i p h = sym (with_at (λ (q : Place). client_cmp q.name p.name) place_cmp p (turns p) places i h)
 
 pub insert_is : (places : List Place) (i : ℕ) (p : Place) → IsGap (λ q. client_cmp q.name p.name) places i → Rattle.std.specs.List.insert places i p ≡ with_entry place_cmp p places

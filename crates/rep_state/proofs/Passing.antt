@@ -17,7 +17,7 @@ use Rattle.rep_model.proofs.Readers.{client_total, client_exact}
 use Rattle.rep_model.proofs.Joins.{all-weaker}
 use Rattle.rep_model.proofs.Named.{find_clients}
 use Rattle.rep_shared.specs.Steps.{capped}
-use Rattle.rep_shared.specs.Rows.{flat, own, or_nothing, moved, has_any, count_named, IsOwn}
+use Rattle.rep_shared.specs.Rows.{flat, own, or_nothing, rows_with, has_any, count_named, IsOwn}
 use Rattle.rep_shared.specs.inner.Rows.{count_new, AreRows, of_client}
 use Rattle.rep_shared.specs.inner.Tables.{passed_of}
 use Rattle.rep_shared.proofs.Counting.{all_found, count_moved, passed_of_clients}
@@ -25,7 +25,7 @@ use Rattle.rep_shared.proofs.Kept.{rows_of_clients}
 use Rattle.rep_shared.proofs.Single.{pending_own, parked_own, exceptions_own}
 use Rattle.rep_shared.proofs.Flat.{of_flat, find_in_moved, rows_moved, count_clients, named_flat}
 use Rattle.rep_entry.specs.declared.entry.Entry.{Entry}
-use Rattle.rep_entry.specs.Entries.{row_of, IsEntry}
+use Rattle.rep_entry.specs.Entries.{entry_row, IsEntry}
 use Rattle.rep_state.specs.Tables.{rows_of, IsKept, AreKept}
 use Rattle.rep_state.specs.inner.Tables.{passed_by, too_many_pending, too_many_parked, too_many_exceptions}
 use Rattle.rep_state.proofs.Entering.{seen_row}
@@ -73,15 +73,15 @@ module _ (P : List ℕ → Bool) (test : List ℕ × Entry → Bool) where
 
 -- ---- the first limit
 
-empty_own : (limit : ℕ) (m : List ℕ → List Op → ℕ) (c : List ℕ) → ((c : List ℕ) → nat_lt limit (m c []) ≡ false) → ((c : List ℕ) (e : Entry) → IsKept c e → nat_lt limit (m c (row_of c e)) ≡ false) → (es : List (List ℕ × Entry)) → AreKept es → nat_lt limit (m c (own c (rows_of es))) ≡ false
+empty_own : (limit : ℕ) (m : List ℕ → List Op → ℕ) (c : List ℕ) → ((c : List ℕ) → nat_lt limit (m c []) ≡ false) → ((c : List ℕ) (e : Entry) → IsKept c e → nat_lt limit (m c (entry_row c e)) ≡ false) → (es : List (List ℕ × Entry)) → AreKept es → nat_lt limit (m c (own c (rows_of es))) ≡ false
 empty_own limit m c none fits [] h = none c
 empty_own limit m c none fits (e ∷ es) h =
-    elim (eq_by_cmp client_cmp c e.0) as (λ b. eq_by_cmp client_cmp c e.0 ≡ b → nat_lt limit (m c (or_nothing (cond b (Some (row_of e.0 e.1)) (find client_cmp c (rows_of es))))) ≡ false) [
-      | true ↦ λ t. ap (λ x. nat_lt limit (m x (row_of e.0 e.1))) (tells_apart client_exact c e.0 t) ∙ fits e.0 e.1 h.0
+    elim (eq_by_cmp client_cmp c e.0) as (λ b. eq_by_cmp client_cmp c e.0 ≡ b → nat_lt limit (m c (or_nothing (cond b (Some (entry_row e.0 e.1)) (find client_cmp c (rows_of es))))) ≡ false) [
+      | true ↦ λ t. ap (λ x. nat_lt limit (m x (entry_row e.0 e.1))) (tells_apart client_exact c e.0 t) ∙ fits e.0 e.1 h.0
       | false ↦ λ _. empty_own limit m c none fits es h.1
     ] refl
 
-pub entries_from_rows : (Q : List ℕ → List Op → Type 0) (fs : List (List ℕ × Entry)) → AllByRecursion (λ row. Q row.0 row.1) (rows_of fs) → AllByRecursion (λ f. Q f.0 (row_of f.0 f.1)) fs
+pub entries_from_rows : (Q : List ℕ → List Op → Type 0) (fs : List (List ℕ × Entry)) → AllByRecursion (λ row. Q row.0 row.1) (rows_of fs) → AllByRecursion (λ f. Q f.0 (entry_row f.0 f.1)) fs
 entries_from_rows Q [] h = tt
 entries_from_rows Q (f ∷ fs) h = (h.0, entries_from_rows Q fs h.1)
 
@@ -98,12 +98,12 @@ pub record AreFresh (fresh : List (List ℕ × Entry)) : Type 0 where
 
 module _ (es fs : List (List ℕ × Entry)) (are : AreRows (rows_of es)) (each : AreKept es) (h : AreFresh fs) where
   abbrev after : List (List ℕ × List Op)
-  after = moved (rows_of es) (rows_of fs)
+  after = rows_with (rows_of es) (rows_of fs)
 
   are_after : AreRows after
   are_after = rows_moved (rows_of es) (rows_of fs) are h.owned
 
-  own_after : AllByRecursion (λ f. own f.0 after ≡ row_of f.0 f.1) fs
+  own_after : AllByRecursion (λ f. own f.0 after ≡ entry_row f.0 f.1) fs
   own_after = entries_from_rows (λ c ops. own c after ≡ ops) fs
       (all-weaker (λ row. find client_cmp row.0 (rows_of fs) ≡ Some row.1) (λ row. own row.0 after ≡ row.1)
       (λ row found. ap or_nothing (find_in_moved row.0 (rows_of es) (rows_of fs) ∙ ap (λ x. or_else x (find client_cmp row.0 (rows_of es))) found))
@@ -112,7 +112,7 @@ module _ (es fs : List (List ℕ × Entry)) (are : AreRows (rows_of es)) (each :
   named_after : AllByRecursion (λ f. is_named f.0 (flat after) ≡ true) fs
   named_after = go fs own_after (entries_from_rows (λ c ops. has_any ops ≡ true) fs h.any)
     where
-      go : (xs : List (List ℕ × Entry)) → AllByRecursion (λ f. own f.0 after ≡ row_of f.0 f.1) xs → AllByRecursion (λ f. has_any (row_of f.0 f.1) ≡ true) xs → AllByRecursion (λ f. is_named f.0 (flat after) ≡ true) xs
+      go : (xs : List (List ℕ × Entry)) → AllByRecursion (λ f. own f.0 after ≡ entry_row f.0 f.1) xs → AllByRecursion (λ f. has_any (entry_row f.0 f.1) ≡ true) xs → AllByRecursion (λ f. is_named f.0 (flat after) ≡ true) xs
       go [] a b = tt
       go (x ∷ xs) a b = (named_flat x.0 after are_after ∙ ap has_any a.0 ∙ b.0, go xs a.1 b.1)
 
@@ -120,17 +120,17 @@ module _ (es fs : List (List ℕ × Entry)) (are : AreRows (rows_of es)) (each :
   passed_one : (limit : ℕ) (m : List ℕ → List Op → ℕ) (test : List ℕ × Entry → Bool)
       → ((c : List ℕ) (S : List Op) → m c S ≡ m c (of_client c S))
       → ((c : List ℕ) → nat_lt limit (m c []) ≡ false)
-      → ((c : List ℕ) (e : Entry) → IsKept c e → nat_lt limit (m c (row_of c e)) ≡ false)
-      → ((f : List ℕ × Entry) → IsEntry f.0 f.1 → nat_lt limit (m f.0 (row_of f.0 f.1)) ≡ test f)
+      → ((c : List ℕ) (e : Entry) → IsKept c e → nat_lt limit (m c (entry_row c e)) ≡ false)
+      → ((f : List ℕ × Entry) → IsEntry f.0 f.1 → nat_lt limit (m f.0 (entry_row f.0 f.1)) ≡ test f)
       → list_any (λ c. nat_lt limit (m c (flat after))) (clients (flat after)) ≡ list_any test fs
   passed_one limit m test reads none fits says =
       any_fresh (λ c. nat_lt limit (m c (flat after))) test (flat after) fs (go fs own_after h.worked_out) named_after
-      (λ c absent. ap (nat_lt limit) (read c ∙ ap (m c) (ap or_nothing (find_in_moved c (rows_of es) (rows_of fs) ∙ ap (λ x. or_else x (find client_cmp c (rows_of es))) (find_rows c fs ∙ ap (option_map (row_of c)) absent)))) ∙ empty_own limit m c none fits es each)
+      (λ c absent. ap (nat_lt limit) (read c ∙ ap (m c) (ap or_nothing (find_in_moved c (rows_of es) (rows_of fs) ∙ ap (λ x. or_else x (find client_cmp c (rows_of es))) (find_rows c fs ∙ ap (option_map (entry_row c)) absent)))) ∙ empty_own limit m c none fits es each)
     where
       read : (c : List ℕ) → m c (flat after) ≡ m c (own c after)
       read c = reads c (flat after) ∙ ap (m c) (of_flat c after are_after)
 
-      go : (xs : List (List ℕ × Entry)) → AllByRecursion (λ f. own f.0 after ≡ row_of f.0 f.1) xs → AllByRecursion (λ f. IsEntry f.0 f.1) xs → AllByRecursion (λ f. nat_lt limit (m f.0 (flat after)) ≡ test f) xs
+      go : (xs : List (List ℕ × Entry)) → AllByRecursion (λ f. own f.0 after ≡ entry_row f.0 f.1) xs → AllByRecursion (λ f. IsEntry f.0 f.1) xs → AllByRecursion (λ f. nat_lt limit (m f.0 (flat after)) ≡ test f) xs
       go [] a b = tt
       go (x ∷ xs) a b = (ap (nat_lt limit) (read x.0 ∙ ap (m x.0) a.0) ∙ says x b.0, go xs a.1 b.1)
 
@@ -139,14 +139,14 @@ module _ (es fs : List (List ℕ × Entry)) (are : AreRows (rows_of es)) (each :
   first_passed_after count is =
       let all : count ≡ length (clients (flat after)) = is ∙ sym (count_moved (rows_of es) (rows_of fs) are h.sorted h.owned h.any) ∙ sym (count_clients after are_after) in
       let pend = passed_one 16384 (λ c S. length (pending c S)) too_many_pending (λ c S. ap length (pending_own c S)) (λ c. refl)
-      (λ c e i. not_above 16384 (length (pending c (row_of c e))) (subst (λ n. n ≤ 16384) (ap (λ (v : ClientView). length v.pending) (seen_row c e i.entry_is)) i.pending))
+      (λ c e i. not_above 16384 (length (pending c (entry_row c e))) (subst (λ n. n ≤ 16384) (ap (λ (v : ClientView). length v.pending) (seen_row c e i.entry_is)) i.pending))
       (λ f w. ap (nat_lt 16384) (sym (ap (λ (v : ClientView). length v.pending) (seen_row f.0 f.1 w)))) in
       let park = passed_one 4096 (λ c S. length (parked c S)) too_many_parked (λ c S. ap length (parked_own c S)) (λ c. refl)
-      (λ c e i. not_above 4096 (length (parked c (row_of c e))) (subst (λ n. n ≤ 4096) i.entry_is.parked i.parked))
+      (λ c e i. not_above 4096 (length (parked c (entry_row c e))) (subst (λ n. n ≤ 4096) i.entry_is.parked i.parked))
       (λ f w. ap (nat_lt 4096) (sym w.parked)) in
       let except = passed_one 16384 exceptions too_many_exceptions exceptions_own (λ c. no_exceptions c)
-      (λ c e i. sym (above_capped (exceptions c (row_of c e))) ∙ not_above 16384 (capped (exceptions c (row_of c e))) (subst (λ n. n ≤ 16384) i.entry_is.exceptions i.exceptions))
-      (λ f w. sym (above_capped (exceptions f.0 (row_of f.0 f.1))) ∙ ap (nat_lt 16384) (sym w.exceptions)) in
+      (λ c e i. sym (above_capped (exceptions c (entry_row c e))) ∙ not_above 16384 (capped (exceptions c (entry_row c e))) (subst (λ n. n ≤ 16384) i.entry_is.exceptions i.exceptions))
+      (λ f w. sym (above_capped (exceptions f.0 (entry_row f.0 f.1))) ∙ ap (nat_lt 16384) (sym w.exceptions)) in
       ap (λ n. passed_of n (list_any too_many_pending fs) (list_any too_many_parked fs) (list_any too_many_exceptions fs)) all ∙ sym (λ i. passed_of (length (clients (flat after))) (pend i) (park i) (except i)) ∙ passed_of_clients (flat after) (rows_of_clients after are_after.owned)
     where
       not_above : (limit n : ℕ) → n ≤ limit → nat_lt limit n ≡ false

@@ -9,12 +9,12 @@ use Rattle.rep_op.specs.declared.op.Op.{Op}
 use Rattle.rep_op.specs.Orders.{client_cmp}
 use Rattle.rep_model.specs.Limits.{parked, exceptions}
 use Rattle.rep_model.proofs.Readers.{client_total, client_exact}
-use Rattle.rep_shared.specs.Rows.{flat, own, or_nothing, moved, has_any, count_named, CanGoBack}
+use Rattle.rep_shared.specs.Rows.{flat, own, or_nothing, rows_with, has_any, count_named, CanGoBack}
 use Rattle.rep_shared.specs.Steps.{capped}
 use Rattle.rep_shared.proofs.Flat.{all_put, count_put, moved_last, one_if}
 use Rattle.rep_shared.proofs.Undo.{place_back}
 use Rattle.rep_entry.specs.declared.entry.Entry.{Entry}
-use Rattle.rep_entry.specs.Entries.{row_of, IsEntry}
+use Rattle.rep_entry.specs.Entries.{entry_row, IsEntry}
 use Rattle.rep_state.specs.Tables.{rows_of, IsKept, AreKept}
 use Rattle.rep_state.specs.inner.Tables.{IsRoomier}
 use Rattle.rep_state.proofs.Rows.{find_rows, rows_put, table_rows}
@@ -53,7 +53,7 @@ found_put q c ops rows h = subst (λ o. IsSome o) (sym (find-put client_cmp clie
 pub there_put : (c : List ℕ) (ops : List Op) (rows : List (List ℕ × List Op)) → find client_cmp c (put client_cmp c ops rows) ≡ Some ops
 there_put c ops rows = find-put client_cmp client_total c c ops rows ∙ ap (λ r. cond (is_eq r) (Some ops) (find client_cmp c rows)) (tied_itself client_total c)
 
-pub empty_kept : (c : List ℕ) (e : Entry) → IsEntry c e → row_of c e ≡ [] → e.seen.pending ≡ [] → IsKept c e
+pub empty_kept : (c : List ℕ) (e : Entry) → IsEntry c e → entry_row c e ≡ [] → e.seen.pending ≡ [] → IsKept c e
 unfolding exceptions
 empty_kept c e h row none =
     let parked_none : e.parked ≡ 0 = h.parked ∙ ap (λ (S : List Op). length (parked c S)) row in
@@ -67,9 +67,9 @@ empty_kept c e h row none =
     }
 
 -- a place more
-pub roomier_place : (es new : List (List ℕ × Entry)) (c : List ℕ) (e : Entry) → new ≡ put client_cmp c e es → find client_cmp c es ≡ None → row_of c e ≡ [] → IsKept c e → IsRoomier es new
+pub roomier_place : (es new : List (List ℕ × Entry)) (c : List ℕ) (e : Entry) → new ≡ put client_cmp c e es → find client_cmp c es ≡ None → entry_row c e ≡ [] → IsKept c e → IsRoomier es new
 roomier_place es new c e at absent row entry =
-    let none : find client_cmp c (rows_of es) ≡ None = find_rows c es ∙ ap (option_map (row_of c)) absent in
+    let none : find client_cmp c (rows_of es) ≡ None = find_rows c es ∙ ap (option_map (entry_row c)) absent in
     let rows : rows_of new ≡ put client_cmp c [] (rows_of es) = ap rows_of at ∙ rows_put c e es ∙ ap (λ S. put client_cmp c S (rows_of es)) row in
     record {
       same = ap flat rows ∙ flat_put c (rows_of es) none;
@@ -84,16 +84,16 @@ roomier_place es new c e at absent row entry =
             few = t.few;
           };
       found = λ q h. subst (λ rows. IsSome (find client_cmp q rows)) (sym rows) (found_put q c [] (rows_of es) h);
-      back = λ count t aside can. subst (λ (rs : List (List ℕ × List Op)). CanGoBack rs aside × (flat (moved rs aside) ≡ flat (moved (rows_of es) aside))) (sym rows) (place_back (rows_of es) aside c (table_rows es count t).sorted none can);
+      back = λ count t aside can. subst (λ (rs : List (List ℕ × List Op)). CanGoBack rs aside × (flat (rows_with rs aside) ≡ flat (rows_with (rows_of es) aside))) (sym rows) (place_back (rows_of es) aside c (table_rows es count t).sorted none can);
     }
 
 pub place_there : (es new : List (List ℕ × Entry)) (c : List ℕ) (e : Entry) → new ≡ put client_cmp c e es → IsSome (find client_cmp c (rows_of new))
-place_there es new c e is = subst (λ o. IsSome o) (sym (ap (λ es. find client_cmp c (rows_of es)) is ∙ ap (find client_cmp c) (rows_put c e es) ∙ there_put c (row_of c e) (rows_of es))) refl
+place_there es new c e is = subst (λ o. IsSome o) (sym (ap (λ es. find client_cmp c (rows_of es)) is ∙ ap (find client_cmp c) (rows_put c e es) ∙ there_put c (entry_row c e) (rows_of es))) refl
 
 pub some_there : (c : List ℕ) (es : List (List ℕ × Entry)) → is_some (find client_cmp c es) ≡ true → IsSome (find client_cmp c (rows_of es))
 some_there c es h = subst (λ o. IsSome o) (sym (find_rows c es)) (mapped (find client_cmp c es) h)
   where
-    mapped : (o : Option Entry) → is_some o ≡ true → IsSome (option_map (row_of c) o)
+    mapped : (o : Option Entry) → is_some o ≡ true → IsSome (option_map (entry_row c) o)
     mapped None h = h
     mapped (Some e) h = refl
 
@@ -103,13 +103,13 @@ none_there (Some x) h = absurd (true≢false h)
 
 -- ---- moves
 
-pub rows_last : (fs : List (List ℕ × Entry)) (f : List ℕ × Entry) → rows_of (fs ++ f ∷ []) ≡ rows_of fs ++ (f.0, row_of f.0 f.1) ∷ []
+pub rows_last : (fs : List (List ℕ × Entry)) (f : List ℕ × Entry) → rows_of (fs ++ f ∷ []) ≡ rows_of fs ++ (f.0, entry_row f.0 f.1) ∷ []
 rows_last [] f = refl
-rows_last (x ∷ fs) f = ap (λ rest. (x.0, row_of x.0 x.1) ∷ rest) (rows_last fs f)
+rows_last (x ∷ fs) f = ap (λ rest. (x.0, entry_row x.0 x.1) ∷ rest) (rows_last fs f)
 
 -- the last of the fresh entries goes to its place
-pub move_last : (es new fs rest : List (List ℕ × Entry)) (c : List ℕ) (e : Entry) → fs ≡ rest ++ (c, e) ∷ [] → new ≡ put client_cmp c e es → moved (rows_of new) (rows_of rest) ≡ moved (rows_of es) (rows_of fs)
+pub move_last : (es new fs rest : List (List ℕ × Entry)) (c : List ℕ) (e : Entry) → fs ≡ rest ++ (c, e) ∷ [] → new ≡ put client_cmp c e es → rows_with (rows_of new) (rows_of rest) ≡ rows_with (rows_of es) (rows_of fs)
 move_last es new fs rest c e all is =
-    ap (λ es. moved (rows_of es) (rows_of rest)) is
-    ∙ ap (λ rows. moved rows (rows_of rest)) (rows_put c e es)
-    ∙ sym (ap (λ fs. moved (rows_of es) (rows_of fs)) all ∙ ap (moved (rows_of es)) (rows_last rest (c, e)) ∙ moved_last (rows_of es) (rows_of rest) (c, row_of c e))
+    ap (λ es. rows_with (rows_of es) (rows_of rest)) is
+    ∙ ap (λ rows. rows_with rows (rows_of rest)) (rows_put c e es)
+    ∙ sym (ap (λ fs. rows_with (rows_of es) (rows_of fs)) all ∙ ap (rows_with (rows_of es)) (rows_last rest (c, e)) ∙ moved_last (rows_of es) (rows_of rest) (c, entry_row c e))

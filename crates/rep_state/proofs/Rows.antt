@@ -17,28 +17,28 @@ use Rattle.rep_model.proofs.Readers.{client_total, client_exact, same_client-tru
 use Rattle.rep_shared.specs.Rows.{IsOwn}
 use Rattle.rep_shared.specs.inner.Rows.{AreRows}
 use Rattle.rep_entry.specs.declared.entry.Entry.{Entry}
-use Rattle.rep_entry.specs.Entries.{row_of}
-use Rattle.rep_state.specs.Tables.{plain_of, by_client, rows_of, AreKept, IsTable}
+use Rattle.rep_entry.specs.Entries.{entry_row}
+use Rattle.rep_state.specs.Tables.{plain_of, by_client, rows_of, AreKept, IsEntryTable}
 use Rattle.rep_state.proofs.Entering.{own_entry}
 use Rattle.indexmap.specs.IndexMap.{insert_entry}
 
 -- ---- entries and rows
 
-pub find_rows : (c : List ℕ) (es : List (List ℕ × Entry)) → find client_cmp c (rows_of es) ≡ option_map (row_of c) (find client_cmp c es)
+pub find_rows : (c : List ℕ) (es : List (List ℕ × Entry)) → find client_cmp c (rows_of es) ≡ option_map (entry_row c) (find client_cmp c es)
 find_rows c [] = refl
 find_rows c (e ∷ es) =
-    elim (eq_by_cmp client_cmp c e.0) as (λ b. eq_by_cmp client_cmp c e.0 ≡ b → cond b (Some (row_of e.0 e.1)) (find client_cmp c (rows_of es)) ≡ option_map (row_of c) (cond b (Some e.1) (find client_cmp c es))) [
-      | true ↦ λ t. ap (λ d. Some (row_of d e.1)) (sym (tells_apart client_exact c e.0 t))
+    elim (eq_by_cmp client_cmp c e.0) as (λ b. eq_by_cmp client_cmp c e.0 ≡ b → cond b (Some (entry_row e.0 e.1)) (find client_cmp c (rows_of es)) ≡ option_map (entry_row c) (cond b (Some e.1) (find client_cmp c es))) [
+      | true ↦ λ t. ap (λ d. Some (entry_row d e.1)) (sym (tells_apart client_exact c e.0 t))
       | false ↦ λ _. find_rows c es
     ] refl
 
-pub rows_put : (c : List ℕ) (x : Entry) (es : List (List ℕ × Entry)) → rows_of (put client_cmp c x es) ≡ put client_cmp c (row_of c x) (rows_of es)
+pub rows_put : (c : List ℕ) (x : Entry) (es : List (List ℕ × Entry)) → rows_of (put client_cmp c x es) ≡ put client_cmp c (entry_row c x) (rows_of es)
 rows_put c x [] = refl
 rows_put c x (e ∷ es) =
-    elim (client_cmp c e.0) as (λ r. client_cmp c e.0 ≡ r → rows_of (by_order r ((c, x) ∷ e ∷ es) ((e.0, x) ∷ es) (e ∷ put client_cmp c x es)) ≡ by_order r ((c, row_of c x) ∷ (e.0, row_of e.0 e.1) ∷ rows_of es) ((e.0, row_of c x) ∷ rows_of es) ((e.0, row_of e.0 e.1) ∷ put client_cmp c (row_of c x) (rows_of es))) [
+    elim (client_cmp c e.0) as (λ r. client_cmp c e.0 ≡ r → rows_of (by_order r ((c, x) ∷ e ∷ es) ((e.0, x) ∷ es) (e ∷ put client_cmp c x es)) ≡ by_order r ((c, entry_row c x) ∷ (e.0, entry_row e.0 e.1) ∷ rows_of es) ((e.0, entry_row c x) ∷ rows_of es) ((e.0, entry_row e.0 e.1) ∷ put client_cmp c (entry_row c x) (rows_of es))) [
       | Less ↦ λ _. refl
-      | Equal ↦ λ t. ap (λ d. (e.0, row_of d x) ∷ rows_of es) (sym (client_exact c e.0 t))
-      | Greater ↦ λ _. ap (λ rest. (e.0, row_of e.0 e.1) ∷ rest) (rows_put c x es)
+      | Equal ↦ λ t. ap (λ d. (e.0, entry_row d x) ∷ rows_of es) (sym (client_exact c e.0 t))
+      | Greater ↦ λ _. ap (λ rest. (e.0, entry_row e.0 e.1) ∷ rest) (rows_put c x es)
     ] refl
 
 below_rows : (c : List ℕ) (es : List (List ℕ × Entry)) → below_all client_cmp c (rows_of es) ≡ below_all client_cmp c es
@@ -53,7 +53,7 @@ owned_rows : (es : List (List ℕ × Entry)) → AreKept es → AllByRecursion (
 owned_rows [] h = tt
 owned_rows (e ∷ es) h = (own_entry e.0 e.1 h.0.entry_is, owned_rows es h.1)
 
-pub table_rows : (es : List (List ℕ × Entry)) (n : ℕ) → IsTable es n → AreRows (rows_of es)
+pub table_rows : (es : List (List ℕ × Entry)) (n : ℕ) → IsEntryTable es n → AreRows (rows_of es)
 table_rows es n h = record { sorted = subst T (sym (sorted_rows es)) h.sorted; owned = owned_rows es h.each }
 
 -- ---- look-ups by octets

@@ -11,7 +11,7 @@ use Rattle.rep_op.specs.declared.op.Put.{Put}
 use Rattle.rep_op.specs.declared.op.Op.{Op}
 use Rattle.rep_op.specs.Orders.{client_cmp}
 use Rattle.rep_model.proofs.Readers.{client_total, client_exact}
-use Rattle.rep_shared.specs.Rows.{own, moved}
+use Rattle.rep_shared.specs.Rows.{own, rows_with}
 use Rattle.rep_shared.specs.inner.Tables.{passed_of}
 use Rattle.rep_shared.proofs.Flat.{all_put}
 use Rattle.sn_session.specs.declared.change.SessionOp.{SessionOp}
@@ -22,13 +22,13 @@ use Rattle.rep_entry.specs.declared.change.Change.{Change}
 use Rattle.rep_log.specs.Mail.{Range}
 use Rattle.rep_log.specs.Origins.{ranges_in}
 use Rattle.rep_log.specs.Kept.{of_log, of_mail, of_acks, kept_ops}
-use Rattle.rep_entry.specs.Entries.{IsEntry, messages, row_of, base_of}
+use Rattle.rep_entry.specs.Entries.{IsEntry, messages, entry_row, base_of}
 use Rattle.rep_state.specs.Tables.{rows_of, IsKept, AreKept}
-use Rattle.rep_entry.specs.Staging.{staged_of, IsChange, range_of, base_in, planned_row, planned, IsReady, AreReady, AreStaged}
+use Rattle.rep_entry.specs.Staging.{staged_of, IsChange, acked_range, base_in, planned_row, planned_rows, IsReady, AreReady, AreStaged}
 use Rattle.rep_state.specs.inner.Groups.{held_of, base_at, or_nothing_held}
 use Rattle.rep_state.specs.inner.Tables.{IsRoomier, passed_by, too_many_pending, too_many_parked, too_many_exceptions}
-use Rattle.rep_state.specs.inner.Staging.{future, AreMovable, HaveRoom, AreWorkedOut}
-use Rattle.rep_entry.specs.Applied.{applied}
+use Rattle.rep_state.specs.inner.Staging.{future, AreMovable, HavePlaces, AreChangesWorkedOut}
+use Rattle.rep_entry.specs.Applied.{entry_applied}
 use Rattle.rep_entry.proofs.Client.{kept_operations, kept_puts}
 use Rattle.rep_entry.proofs.Rising.{values_named}
 use Rattle.rep_state.proofs.Rows.{find_rows}
@@ -38,26 +38,26 @@ use Rattle.rep_entry.proofs.Applied.{row_applied, entry_of}
 
 -- ---- entries and rows
 
-log_ranges : (c : List ℕ) (es : List ((Stamp × ℕ) × SessionOp)) → filter_map range_of (of_log c es) ≡ []
+log_ranges : (c : List ℕ) (es : List ((Stamp × ℕ) × SessionOp)) → filter_map acked_range (of_log c es) ≡ []
 log_ranges c [] = refl
 log_ranges c (e ∷ es) = log_ranges c es
 
-mail_ranges : (c : List ℕ) (ps : List Put) → filter_map range_of (of_mail c ps) ≡ []
+mail_ranges : (c : List ℕ) (ps : List Put) → filter_map acked_range (of_mail c ps) ≡ []
 mail_ranges c [] = refl
 mail_ranges c (p ∷ ps) = mail_ranges c ps
 
-acks_ranges : (c : List ℕ) (rs : List Range) → filter_map range_of (of_acks c rs) ≡ rs
+acks_ranges : (c : List ℕ) (rs : List Range) → filter_map acked_range (of_acks c rs) ≡ rs
 acks_ranges c [] = refl
 acks_ranges c (r ∷ rs) = ap (λ rest. r ∷ rest) (acks_ranges c rs)
 
 -- the ranges among what is kept
-kept_ranges : (c : List ℕ) (es : List ((Stamp × ℕ) × SessionOp)) (ps : List Put) (rs : List Range) → filter_map range_of (kept_ops c es ps rs) ≡ rs
+kept_ranges : (c : List ℕ) (es : List ((Stamp × ℕ) × SessionOp)) (ps : List Put) (rs : List Range) → filter_map acked_range (kept_ops c es ps rs) ≡ rs
 kept_ranges c es ps rs =
-    filter_map-append range_of (of_log c es) (of_mail c ps ++ of_acks c rs)
-    ∙ (λ i. log_ranges c es i ++ (filter_map-append range_of (of_mail c ps) (of_acks c rs) ∙ (λ j. mail_ranges c ps j ++ acks_ranges c rs j)) i)
+    filter_map-append acked_range (of_log c es) (of_mail c ps ++ of_acks c rs)
+    ∙ (λ i. log_ranges c es i ++ (filter_map-append acked_range (of_mail c ps) (of_acks c rs) ∙ (λ j. mail_ranges c ps j ++ acks_ranges c rs j)) i)
 
 -- what a change builds on is read off the row
-base_row : (c : List ℕ) (e : Entry) → base_in c (row_of c e) ≡ base_of e
+base_row : (c : List ℕ) (e : Entry) → base_in c (entry_row c e) ≡ base_of e
 base_row c e =
     let rs = ranges_in e.acks in
     let waits = ap messages (kept_puts c e.known e.seen.pending rs) ∙ values_named e.seen.pending in
@@ -69,11 +69,11 @@ base_same c es = ap (base_in c) (sym (held_row c es)) ∙ base_row c (held_of c 
 pub there_same : (c : List ℕ) (es : List (List ℕ × Entry)) → is_some (find client_cmp c (rows_of es)) ≡ is_some (find client_cmp c es)
 there_same c es = ap is_some (find_rows c es) ∙ at (find client_cmp c es)
   where
-    at : (o : Option Entry) → is_some (option_map (row_of c) o) ≡ is_some o
+    at : (o : Option Entry) → is_some (option_map (entry_row c) o) ≡ is_some o
     at None = refl
     at (Some e) = refl
 
-pub planned_future : (rows : List (List ℕ × List Op)) (es : List (List ℕ × Entry)) → ((c : List ℕ) → own c rows ≡ own c (rows_of es)) → (gs : List (List ℕ × Change)) → planned rows gs ≡ rows_of (future es gs)
+pub planned_future : (rows : List (List ℕ × List Op)) (es : List (List ℕ × Entry)) → ((c : List ℕ) → own c rows ≡ own c (rows_of es)) → (gs : List (List ℕ × Change)) → planned_rows rows gs ≡ rows_of (future es gs)
 planned_future rows es same [] = refl
 planned_future rows es same (g ∷ gs) =
     let row = ap (λ ops. planned_row g.0 (base_in g.0 ops) g.1) (same g.0) ∙ ap (λ base. planned_row g.0 base g.1) (base_same g.0 es) ∙ sym (row_applied g.0 (held_of g.0 es) g.1) in
@@ -87,7 +87,7 @@ sorted_future : (es : List (List ℕ × Entry)) (gs : List (List ℕ × Change))
 sorted_future es [] = refl
 sorted_future es (g ∷ gs) = λ i. below_future es g.0 gs i && sorted_future es gs i
 
-pub future_worked_out : (es : List (List ℕ × Entry)) (gs : List (List ℕ × Change)) → ((c : List ℕ) → IsEntry c (held_of c es)) → AreWorkedOut es gs → AllByRecursion (λ f. IsEntry f.0 f.1) (future es gs)
+pub future_worked_out : (es : List (List ℕ × Entry)) (gs : List (List ℕ × Change)) → ((c : List ℕ) → IsEntry c (held_of c es)) → AreChangesWorkedOut es gs → AllByRecursion (λ f. IsEntry f.0 f.1) (future es gs)
 future_worked_out es [] held h = tt
 future_worked_out es (g ∷ gs) held h = (entry_of g.0 (held_of g.0 es) g.1 (held g.0) h.0.change_is h.0.fit, future_worked_out es gs held h.1)
 
@@ -97,7 +97,7 @@ pub any_staged : (test : Change → Bool) (xs : List (Vec ℕ Global × Change))
 any_staged test [] = refl
 any_staged test (x ∷ xs) = ap (λ b. test x.1 || b) (any_staged test xs)
 
-any_pending : (es : List (List ℕ × Entry)) (gs : List (List ℕ × Change)) → AreWorkedOut es gs → list_any (λ (g : List ℕ × Change). nat_lt 16384 g.1.pending) gs ≡ list_any too_many_pending (future es gs)
+any_pending : (es : List (List ℕ × Entry)) (gs : List (List ℕ × Change)) → AreChangesWorkedOut es gs → list_any (λ (g : List ℕ × Change). nat_lt 16384 g.1.pending) gs ≡ list_any too_many_pending (future es gs)
 any_pending es [] h = refl
 any_pending es (g ∷ gs) h = λ i. nat_lt 16384 (h.0.counted i) || any_pending es gs h.1 i
 
@@ -109,7 +109,7 @@ any_exceptions : (es : List (List ℕ × Entry)) (gs : List (List ℕ × Change)
 any_exceptions es [] = refl
 any_exceptions es (g ∷ gs) = ap (λ b. nat_lt 16384 g.1.exceptions || b) (any_exceptions es gs)
 
-pub passed_future : (n : ℕ) (es : List (List ℕ × Entry)) (xs : List (Vec ℕ Global × Change)) → AreWorkedOut es (staged_of xs)
+pub passed_future : (n : ℕ) (es : List (List ℕ × Entry)) (xs : List (Vec ℕ Global × Change)) → AreChangesWorkedOut es (staged_of xs)
     → passed_of n (list_any (λ (x : Vec ℕ Global × Change). nat_lt 16384 x.1.pending) xs) (list_any (λ (x : Vec ℕ Global × Change). nat_lt 4096 x.1.parked) xs) (list_any (λ (x : Vec ℕ Global × Change). nat_lt 16384 x.1.exceptions) xs) ≡ passed_by n (future es (staged_of xs))
 passed_future n es xs h =
     let a = any_staged (λ ch. nat_lt 16384 ch.pending) xs ∙ any_pending es (staged_of xs) h in
@@ -119,7 +119,7 @@ passed_future n es xs h =
 
 unnamed_length : (test : List ℕ → Bool) (es : List (List ℕ × Entry)) (xs : List (Vec ℕ Global × Change)) → length (filter (λ (x : Vec ℕ Global × Change). test x.0.items) xs) ≡ length (filter (λ (row : List ℕ × List Op). test row.0) (rows_of (future es (staged_of xs))))
 unnamed_length test es [] = refl
-unnamed_length test es (x ∷ xs) = elim (test x.0.items) as (λ b. length (cond b (x ∷ filter (λ (x : Vec ℕ Global × Change). test x.0.items) xs) (filter (λ (x : Vec ℕ Global × Change). test x.0.items) xs)) ≡ length (cond b ((x.0.items, row_of x.0.items (applied (held_of x.0.items es) x.1)) ∷ filter (λ (row : List ℕ × List Op). test row.0) (rows_of (future es (staged_of xs)))) (filter (λ (row : List ℕ × List Op). test row.0) (rows_of (future es (staged_of xs)))))) [
+unnamed_length test es (x ∷ xs) = elim (test x.0.items) as (λ b. length (cond b (x ∷ filter (λ (x : Vec ℕ Global × Change). test x.0.items) xs) (filter (λ (x : Vec ℕ Global × Change). test x.0.items) xs)) ≡ length (cond b ((x.0.items, entry_row x.0.items (entry_applied (held_of x.0.items es) x.1)) ∷ filter (λ (row : List ℕ × List Op). test row.0) (rows_of (future es (staged_of xs)))) (filter (λ (row : List ℕ × List Op). test row.0) (rows_of (future es (staged_of xs)))))) [
   | true ↦ ap suc (unnamed_length test es xs)
   | false ↦ unnamed_length test es xs
 ]
@@ -129,7 +129,7 @@ count_future test es xs = sym (length-filter (λ (x : Vec ℕ Global × Change).
 
 -- ---- what fits is ready
 
-changes_each : (es : List (List ℕ × Entry)) (gs : List (List ℕ × Change)) → AreWorkedOut es gs → AllByRecursion (λ g. IsChange g.1) gs
+changes_each : (es : List (List ℕ × Entry)) (gs : List (List ℕ × Change)) → AreChangesWorkedOut es gs → AllByRecursion (λ g. IsChange g.1) gs
 changes_each es [] h = tt
 changes_each es (g ∷ gs) h = (h.0.change_is, changes_each es gs h.1)
 
@@ -141,7 +141,7 @@ few_exceptions : (es : List (List ℕ × Entry)) (gs : List (List ℕ × Change)
 few_exceptions es [] h = tt
 few_exceptions es (g ∷ gs) h = (h.0.exceptions, few_exceptions es gs h.1)
 
-pub are_staged : (es : List (List ℕ × Entry)) (gs : List (List ℕ × Change)) → AreWorkedOut es gs → T (is_sorted client_cmp (rows_of (future es gs))) → AreKept (future es gs) → AreStaged gs
+pub are_staged : (es : List (List ℕ × Entry)) (gs : List (List ℕ × Change)) → AreChangesWorkedOut es gs → T (is_sorted client_cmp (rows_of (future es gs))) → AreKept (future es gs) → AreStaged gs
 are_staged es gs h sorted kept = record {
   sorted = subst T (sorted_future es gs) sorted;
   each = changes_each es gs h;
@@ -149,7 +149,7 @@ are_staged es gs h sorted kept = record {
   exceptions = few_exceptions es gs kept;
 }
 
-pub are_ready : (es room : List (List ℕ × Entry)) (gs : List (List ℕ × Change)) → ((c : List ℕ) → own c (rows_of room) ≡ own c (rows_of es)) → HaveRoom room gs → AreWorkedOut es gs → AreKept (future es gs) → AreReady (rows_of room) gs
+pub are_ready : (es room : List (List ℕ × Entry)) (gs : List (List ℕ × Change)) → ((c : List ℕ) → own c (rows_of room) ≡ own c (rows_of es)) → HavePlaces room gs → AreChangesWorkedOut es gs → AreKept (future es gs) → AreReady (rows_of room) gs
 are_ready es room [] same r h kept = tt
 are_ready es room (g ∷ gs) same r h kept =
     let base = ap (base_in g.0) (same g.0) ∙ base_same g.0 es in (
@@ -165,7 +165,7 @@ are_movable es (g ∷ gs) h = (
 )
 
 -- room for one more
-pub room_more : (old new : List (List ℕ × Entry)) (done : List (List ℕ × Change)) (g : List ℕ × Change) → IsRoomier old new → HaveRoom old done → IsSome (find client_cmp g.0 (rows_of new)) → HaveRoom new (done ++ g ∷ [])
+pub room_more : (old new : List (List ℕ × Entry)) (done : List (List ℕ × Change)) (g : List ℕ × Change) → IsRoomier old new → HavePlaces old done → IsSome (find client_cmp g.0 (rows_of new)) → HavePlaces new (done ++ g ∷ [])
 room_more old new [] g h room here = (here, tt)
 room_more old new (x ∷ done) g h room here = (h.found x.0 room.0, room_more old new done g h room.1 here)
 
@@ -175,9 +175,9 @@ pub staged_last : (xs : List (Vec ℕ Global × Change)) (x : Vec ℕ Global × 
 staged_last [] x = refl
 staged_last (y ∷ xs) x = ap (λ rest. (y.0.items, y.1) ∷ rest) (staged_last xs x)
 
-pub future_last : (es : List (List ℕ × Entry)) (gs : List (List ℕ × Change)) (g : List ℕ × Change) → future es (gs ++ g ∷ []) ≡ future es gs ++ (g.0, applied (held_of g.0 es) g.1) ∷ []
+pub future_last : (es : List (List ℕ × Entry)) (gs : List (List ℕ × Change)) (g : List ℕ × Change) → future es (gs ++ g ∷ []) ≡ future es gs ++ (g.0, entry_applied (held_of g.0 es) g.1) ∷ []
 future_last es [] g = refl
-future_last es (x ∷ gs) g = ap (λ rest. (x.0, applied (held_of x.0 es) x.1) ∷ rest) (future_last es gs g)
+future_last es (x ∷ gs) g = ap (λ rest. (x.0, entry_applied (held_of x.0 es) x.1) ∷ rest) (future_last es gs g)
 
 all_front : {A : Type 0} (P : A → Type 0) (xs : List A) (x : A) → AllByRecursion P (xs ++ x ∷ []) → AllByRecursion P xs × P x
 all_front P [] x h = (tt, h.0)
@@ -229,7 +229,7 @@ found_other c q e es other = find-put client_cmp client_total q c e es ∙ ap (�
 
 future_other : (c : List ℕ) (e : Entry) (es : List (List ℕ × Entry)) (gs : List (List ℕ × Change)) → AreOthers c gs → future (put client_cmp c e es) gs ≡ future es gs
 future_other c e es [] h = refl
-future_other c e es (g ∷ gs) h = λ i. (g.0, applied (or_nothing_held (found_other c g.0 e es h.0 i)) g.1) ∷ future_other c e es gs h.1 i
+future_other c e es (g ∷ gs) h = λ i. (g.0, entry_applied (or_nothing_held (found_other c g.0 e es h.0 i)) g.1) ∷ future_other c e es gs h.1 i
 
 movable_other : (c : List ℕ) (e : Entry) (es : List (List ℕ × Entry)) (gs : List (List ℕ × Change)) → AreOthers c gs → AreMovable es gs → AreMovable (put client_cmp c e es) gs
 movable_other c e es [] others h = tt
@@ -238,7 +238,7 @@ movable_other c e es (g ∷ gs) others h = (
   movable_other c e es gs others.1 h.1,
 )
 
-module _ (es new : List (List ℕ × Entry)) (gs rest : List (List ℕ × Change)) (c : List ℕ) (ch : Change) (all : gs ≡ rest ++ (c, ch) ∷ []) (is : new ≡ put client_cmp c (applied (held_of c es) ch) es) (staged : AreStaged gs) (movable : AreMovable es gs) where
+module _ (es new : List (List ℕ × Entry)) (gs rest : List (List ℕ × Change)) (c : List ℕ) (ch : Change) (all : gs ≡ rest ++ (c, ch) ∷ []) (is : new ≡ put client_cmp c (entry_applied (held_of c es) ch) es) (staged : AreStaged gs) (movable : AreMovable es gs) where
   front : AreStaged rest × AreOthers c rest × IsChange ch × (ch.parked ≤ 4096) × (ch.exceptions ≤ 16384)
   front = staged_front rest (c, ch) (subst AreStaged all staged)
 
@@ -255,14 +255,14 @@ module _ (es new : List (List ℕ × Entry)) (gs rest : List (List ℕ × Change
   rest_staged = front.0
 
   pub rest_movable : AreMovable new rest
-  rest_movable = subst (λ es. AreMovable es rest) (sym is) (movable_other c (applied (held_of c es) ch) es rest front.1 ready.0)
+  rest_movable = subst (λ es. AreMovable es rest) (sym is) (movable_other c (entry_applied (held_of c es) ch) es rest front.1 ready.0)
 
-  pub rest_moved : moved (rows_of new) (rows_of (future new rest)) ≡ moved (rows_of es) (rows_of (future es gs))
+  pub rest_moved : rows_with (rows_of new) (rows_of (future new rest)) ≡ rows_with (rows_of es) (rows_of (future es gs))
   rest_moved =
-      ap (λ fs. moved (rows_of new) (rows_of fs)) (ap (λ es. future es rest) is ∙ future_other c (applied (held_of c es) ch) es rest front.1)
-      ∙ move_last es new (future es gs) (future es rest) c (applied (held_of c es) ch) (ap (future es) all ∙ future_last es rest (c, ch)) is
+      ap (λ fs. rows_with (rows_of new) (rows_of fs)) (ap (λ es. future es rest) is ∙ future_other c (entry_applied (held_of c es) ch) es rest front.1)
+      ∙ move_last es new (future es gs) (future es rest) c (entry_applied (held_of c es) ch) (ap (future es) all ∙ future_last es rest (c, ch)) is
 
   pub rest_kept : AreKept es → AreKept new
   rest_kept kept =
-      let e : IsKept c (applied (held_of c es) ch) = record { entry_is = entry_of c (held_of c es) ch (held_is c es kept) front.2 ready.1.fit; pending = ready.1.few; parked = front.3; exceptions = front.4 } in
-      subst AreKept (sym is) (all_put client_cmp client_exact IsKept c (applied (held_of c es) ch) es e kept)
+      let e : IsKept c (entry_applied (held_of c es) ch) = record { entry_is = entry_of c (held_of c es) ch (held_is c es kept) front.2 ready.1.fit; pending = ready.1.few; parked = front.3; exceptions = front.4 } in
+      subst AreKept (sym is) (all_put client_cmp client_exact IsKept c (entry_applied (held_of c es) ch) es e kept)

@@ -23,10 +23,10 @@ use Rattle.rep_shared.proofs.Counting.{all_found}
 use Rattle.rep_shared.proofs.Flat.{of_flat, found_own}
 use Rattle.rep_entry.specs.declared.entry.Entry.{Entry}
 use Rattle.rep_entry.specs.declared.fresh.Fresh.{Fresh}
-use Rattle.rep_entry.specs.Entries.{row_of, IsEntry, IsFresh, fresh_row}
-use Rattle.rep_state.specs.Tables.{rows_of, AreKept, IsKept, IsTable}
+use Rattle.rep_entry.specs.Entries.{entry_row, IsEntry, IsFresh, fresh_row}
+use Rattle.rep_state.specs.Tables.{rows_of, AreKept, IsKept, IsEntryTable}
 use Rattle.rep_state.specs.inner.Tables.{AreWorkedOut}
-use Rattle.rep_state.specs.inner.Groups.{held_of, or_nothing_held, IsTaken, IsGroup, IsGroupOf, AreGroups, fresh_rows, IsRowOf, AreRowsOf}
+use Rattle.rep_state.specs.inner.Groups.{held_of, or_nothing_held, IsKeptAfter, IsGroup, IsGroupOf, AreGroups, fresh_rows, IsRowOf, AreRowsOf}
 use Rattle.rep_entry.proofs.Client.{itself}
 use Rattle.rep_state.proofs.Entering.{own_entry}
 use Rattle.rep_entry.proofs.Empty.{nothing_is}
@@ -45,10 +45,10 @@ held_is c es each = at (find client_cmp c es) refl
     at (Some x) e = (found_holds client_cmp client_exact IsKept c x es each e).entry_is
 
 -- it is the client's row
-pub held_row : (c : List ℕ) (es : List (List ℕ × Entry)) → row_of c (held_of c es) ≡ own c (rows_of es)
+pub held_row : (c : List ℕ) (es : List (List ℕ × Entry)) → entry_row c (held_of c es) ≡ own c (rows_of es)
 held_row c es = at (find client_cmp c es) ∙ sym (ap or_nothing (find_rows c es))
   where
-    at : (o : Option Entry) → row_of c (or_nothing_held o) ≡ or_nothing (option_map (row_of c) o)
+    at : (o : Option Entry) → entry_row c (or_nothing_held o) ≡ or_nothing (option_map (entry_row c) o)
     at None = refl
     at (Some x) = refl
 
@@ -76,7 +76,7 @@ own_of c (op ∷ N) e h =
 -- ---- groups
 
 -- nothing is said of the client
-pub nothing_taken : (c : List ℕ) (es : List (List ℕ × Entry)) (D : List Op) → AreKept es → of_client c D ≡ [] → IsTaken c es D (own c (rows_of es))
+pub nothing_taken : (c : List ℕ) (es : List (List ℕ × Entry)) (D : List Op) → AreKept es → of_client c D ≡ [] → IsKeptAfter c es D (own c (rows_of es))
 nothing_taken c es D each none =
     let ops = own c (rows_of es) in
     subst (λ rest. Same ops (keep (ops ++ rest))) (sym none) (subst (λ S. Same ops (keep S)) (sym (append-nil ops)) (own_keeps c es each))
@@ -84,7 +84,7 @@ nothing_taken c es D each none =
 -- an operation more in the group of its client
 pub group_added : (es : List (List ℕ × Entry)) (D : List Op) (op : Op) (groups new : List (List ℕ × Fresh)) (client : List ℕ) (ops : List Op) (fresh : Fresh) → client ≡ client_of op
     → AreGroups es D groups
-    → IsTaken client es D ops
+    → IsKeptAfter client es D ops
     → IsFresh client (held_of client es) fresh × Same (fresh_row client (held_of client es) fresh) (keep (ops ++ op ∷ []))
     → new ≡ put client_cmp client fresh groups
     → AreGroups es (D ++ op ∷ []) new
@@ -113,7 +113,7 @@ owned_entries : (fs : List (List ℕ × Entry)) → AreWorkedOut fs → AllByRec
 owned_entries [] h = tt
 owned_entries (f ∷ fs) h = (own_entry f.0 f.1 h.0, owned_entries fs h.1)
 
-module _ (es : List (List ℕ × Entry)) (n : ℕ) (t : IsTable es n) (D : List Op) (clients : AreOfClients D) (made : AllByRecursion (λ op. IsTrue (is_well_made op)) D) (fs : List (List ℕ × Entry)) (groups : List (List ℕ × Fresh)) (h : AreGroups es D groups) (sorted : T (is_sorted client_cmp groups)) (is : rows_of fs ≡ fresh_rows es groups) (worked : AreWorkedOut fs) where
+module _ (es : List (List ℕ × Entry)) (n : ℕ) (t : IsEntryTable es n) (D : List Op) (clients : AreOfClients D) (made : AllByRecursion (λ op. IsTrue (is_well_made op)) D) (fs : List (List ℕ × Entry)) (groups : List (List ℕ × Fresh)) (h : AreGroups es D groups) (sorted : T (is_sorted client_cmp groups)) (is : rows_of fs ≡ fresh_rows es groups) (worked : AreWorkedOut fs) where
   pub fresh_rows_of : AreRowsOf es D (rows_of fs)
   fresh_rows_of = subst (AreRowsOf es D) (sym is) (rows_of_groups es D groups h)
 
@@ -138,7 +138,7 @@ module _ (es : List (List ℕ × Entry)) (n : ℕ) (t : IsTable es n) (D : List 
 
 -- ---- what is held
 
-module _ (es : List (List ℕ × Entry)) (n : ℕ) (t : IsTable es n) where
+module _ (es : List (List ℕ × Entry)) (n : ℕ) (t : IsEntryTable es n) where
   pub made_flat : AreWellMade (flat (rows_of es))
   made_flat = made_rows (rows_of es) (table_rows es n t).owned
 

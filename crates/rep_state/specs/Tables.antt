@@ -11,7 +11,7 @@ use Rattle.rep_model.specs.Views.{in_order}
 use Rattle.rep_shared.specs.Rows.{count_named}
 use Rattle.rep_entry.specs.declared.entry.Entry.{Entry}
 use Rattle.rep_state.specs.declared.places.Place.{Place}
-use Rattle.rep_entry.specs.Entries.{row_of, IsEntry}
+use Rattle.rep_entry.specs.Entries.{entry_row, IsEntry}
 
 -- the clients with their entries, in the order of the clients and not of the table
 abbrev pub plain_of : List (Vec ℕ Global × Entry) → List (List ℕ × Entry)
@@ -36,7 +36,7 @@ pub record ArePlaces (entries : List (Vec ℕ Global × Entry)) (places : List P
 
 -- the operations that are kept of each client
 abbrev pub rows_of : List (List ℕ × Entry) → List (List ℕ × List Op)
-rows_of es = map (λ e. (e.0, row_of e.0 e.1)) es
+rows_of es = map (λ e. (e.0, entry_row e.0 e.1)) es
 
 -- an entry of a client that passes no limit
 pub record IsKept (c : List ℕ) (entry : Entry) : Type 0 where
@@ -50,7 +50,7 @@ abbrev pub AreKept : List (List ℕ × Entry) → Type 0
 AreKept es = AllByRecursion (λ e. IsKept e.0 e.1) es
 
 -- entries in the order of their clients; so many of them have operations
-pub record IsTable (es : List (List ℕ × Entry)) (count : ℕ) : Type 0 where
+pub record IsEntryTable (es : List (List ℕ × Entry)) (count : ℕ) : Type 0 where
   pub sorted : T (is_sorted client_cmp es)
   pub each : AreKept es
   pub counted : count ≡ count_named (rows_of es)

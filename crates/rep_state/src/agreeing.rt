@@ -7,7 +7,7 @@ ghost use Rattle.rep_model.specs.Taking.{AllAgree, IsFaultOf};
 ghost use Rattle.rep_shared.specs.Rows.{flat, own};
 ghost use Rattle.rep_shared.specs.inner.Rows.{AreRows};
 ghost use Rattle.rep_shared.specs.inner.Tables.{IsRefusalOf};
-ghost use Rattle.rep_entry.specs.Entries.{row_of};
+ghost use Rattle.rep_entry.specs.Entries.{entry_row};
 ghost use Rattle.rep_log.specs.Mail.{Rising};
 ghost use Rattle.rep_state.specs.Tables.{by_client, rows_of, AreKept};
 
@@ -76,7 +76,7 @@ fn agrees(table: &Table, op: &Op) -> bool
 fn agrees_with(entry: &Entry, op: &Op) -> bool
     requires rising { Rising entry.now.seen.pending }
     requires client { is_of_client op.now ≡ true }
-    ensures { IsTrue result ↔ Agrees (row_of (client_of op.now) entry.now) op.now }
+    ensures { IsTrue result ↔ Agrees (entry_row (client_of op.now) entry.now) op.now }
 {
     match op {
         Op::Session {

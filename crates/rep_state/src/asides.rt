@@ -5,13 +5,13 @@ ghost use Rattle.std.specs.FinMap.{find, put, is_sorted};
 ghost use Rattle.rep_op.specs.declared.op.Op.{Op};
 ghost use Rattle.rep_op.specs.Orders.{client_cmp};
 ghost use Rattle.rep_model.specs.declared.fault.TheConstants.{MOST_CLIENTS};
-ghost use Rattle.rep_shared.specs.Rows.{own, moved, count_named, CanGoBack, AreSaved};
-ghost use Rattle.rep_entry.specs.Entries.{row_of};
+ghost use Rattle.rep_shared.specs.Rows.{own, rows_with, count_named, CanGoBack, AreSaved};
+ghost use Rattle.rep_entry.specs.Entries.{entry_row};
 ghost use Rattle.rep_entry.specs.Staging.{staged_of};
-ghost use Rattle.rep_state.specs.Tables.{by_client, rows_of, IsKept, AreKept, IsTable, ArePlaces};
+ghost use Rattle.rep_state.specs.Tables.{by_client, rows_of, IsKept, AreKept, IsEntryTable, ArePlaces};
 ghost use Rattle.rep_state.specs.Interests.{AreMarked};
 ghost use Rattle.rep_state.specs.inner.Tables.{IsSaving, HaveTheirPlaces, AreKeptAside};
-ghost use Rattle.rep_state.specs.inner.Staging.{HaveRoom};
+ghost use Rattle.rep_state.specs.inner.Staging.{HavePlaces};
 ghost use Rattle.rep_state.specs.declared.places.Place.{Place as AtPlace};
 
 use super::places::{Place, client_at, enter, mark_place};
@@ -31,13 +31,13 @@ pub(crate) fn save_all(
     changes: &[(Vec<u8>, Change)],
 ) -> Result<(), NoMemory>
     requires kept { AreKept (by_client table.now.entries) }
-    requires room { HaveRoom (by_client table.now.entries) (staged_of changes.now) }
-    requires aside { IsTable (by_client aside.old.entries) count.old }
+    requires room { HavePlaces (by_client table.now.entries) (staged_of changes.now) }
+    requires aside { IsEntryTable (by_client aside.old.entries) count.old }
     requires places { ArePlaces aside.old.entries places.old.items }
     requires marks { AreMarked (by_client aside.old.entries) places.old.items }
     requires can { CanGoBack (rows_of (by_client table.now.entries))
         (rows_of (by_client aside.old.entries)) }
-    ensures table { IsTable (by_client aside.new.entries) count.new }
+    ensures table { IsEntryTable (by_client aside.new.entries) count.new }
     ensures places { ArePlaces aside.new.entries places.new.items }
     ensures marks { AreMarked (by_client aside.new.entries) places.new.items }
     ensures saving { IsSaving (rows_of (by_client table.now.entries))
@@ -63,12 +63,12 @@ fn save_one(
     requires kept { AreKept (by_client table.now.entries) }
     requires there { IsSome (find client_cmp client.now
         (rows_of (by_client table.now.entries))) }
-    requires aside { IsTable (by_client aside.old.entries) count.old }
+    requires aside { IsEntryTable (by_client aside.old.entries) count.old }
     requires places { ArePlaces aside.old.entries places.old.items }
     requires marks { AreMarked (by_client aside.old.entries) places.old.items }
     requires can { CanGoBack (rows_of (by_client table.now.entries))
         (rows_of (by_client aside.old.entries)) }
-    ensures table { IsTable (by_client aside.new.entries) count.new }
+    ensures table { IsEntryTable (by_client aside.new.entries) count.new }
     ensures places { ArePlaces aside.new.entries places.new.items }
     ensures marks { AreMarked (by_client aside.new.entries) places.new.items }
     ensures saving { IsSaving (rows_of (by_client table.now.entries))
@@ -96,17 +96,17 @@ fn put_aside(
 ) -> Result<(), NoMemory>
     requires kept { IsKept client.now held.now }
     requires absent { find client_cmp client.now (by_client aside.old.entries) ≡ None }
-    requires aside { IsTable (by_client aside.old.entries) count.old }
+    requires aside { IsEntryTable (by_client aside.old.entries) count.old }
     requires places { ArePlaces aside.old.entries places.old.items }
     requires marks { AreMarked (by_client aside.old.entries) places.old.items }
-    requires few { count_named (put client_cmp client.now (row_of client.now held.now)
+    requires few { count_named (put client_cmp client.now (entry_row client.now held.now)
         (rows_of (by_client aside.old.entries))) ≤ MOST_CLIENTS }
-    ensures table { IsTable (by_client aside.new.entries) count.new }
+    ensures table { IsEntryTable (by_client aside.new.entries) count.new }
     ensures places { ArePlaces aside.new.entries places.new.items }
     ensures marks { AreMarked (by_client aside.new.entries) places.new.items }
     ensures saving { (rows : List (List ℕ × List Op)) → T (is_sorted client_cmp rows)
         → IsSome (find client_cmp client.now rows)
-        → own client.now rows ≡ row_of client.now held.now
+        → own client.now rows ≡ entry_row client.now held.now
         → IsSaving rows (rows_of (by_client aside.old.entries))
         (rows_of (by_client aside.new.entries)) }
     ensures saved { OnOk result
@@ -134,7 +134,7 @@ pub(crate) fn put_all_back(table: &mut Table, places: &mut Vec<Place>, mut aside
     requires places { ArePlaces table.old.entries places.old.items }
     requires marks { AreMarked (by_client table.old.entries) places.old.items }
     ensures rows { rows_of (by_client table.new.entries)
-        ≡ moved (rows_of (by_client table.old.entries)) (rows_of (by_client aside.entries)) }
+        ≡ rows_with (rows_of (by_client table.old.entries)) (rows_of (by_client aside.entries)) }
     ensures kept { AreKept (by_client table.new.entries) }
     ensures places { ArePlaces table.new.entries places.new.items }
     ensures marks { AreMarked (by_client table.new.entries) places.new.items }

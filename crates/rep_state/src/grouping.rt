@@ -10,8 +10,8 @@ ghost use Rattle.rep_op.specs.WellMade.{is_well_made};
 ghost use Rattle.rep_entry.specs.Entries.{IsEntry, IsFresh, fresh_row};
 ghost use Rattle.rep_state.specs.Tables.{by_client, rows_of, AreKept};
 ghost use Rattle.rep_entry.specs.Staging.{staged_of};
-ghost use Rattle.rep_state.specs.inner.Staging.{future, AreWorkedOut};
-ghost use Rattle.rep_state.specs.inner.Groups.{held_of, IsBegun, AreGroups, fresh_rows};
+ghost use Rattle.rep_state.specs.inner.Staging.{future, AreChangesWorkedOut};
+ghost use Rattle.rep_state.specs.inner.Groups.{held_of, IsFirstChange, AreGroups, fresh_rows};
 ghost use Rattle.rep_entry.specs.Applied.{nothing_held};
 
 use super::table::{Table, copy_octets, entry_of};
@@ -25,7 +25,11 @@ use std::cmp::Ordering;
 pub(crate) type Group = (ClientId, Fresh);
 
 /// For each client that the operations name: what they change of it, in the order of the clients.
-pub(crate) fn grown(alloc: Global, table: &Table, ops: &[Op]) -> Result<Vec<Group>, NoMemory>
+pub(crate) fn changes_by_client(
+    alloc: Global,
+    table: &Table,
+    ops: &[Op],
+) -> Result<Vec<Group>, NoMemory>
     requires kept { AreKept (by_client table.now.entries) }
     requires clients { AreOfClients ops.now }
     requires made { AllByRecursion (λ op. IsTrue (is_well_made op)) ops.now }
@@ -86,14 +90,14 @@ fn add_to_group(
     ensures sorted { OnOk result (T (is_sorted client_cmp groups.new.items)) }
 {
     let client = op.client();
-    let entry = held(table, nothing, client);
+    let entry = entry_or_nothing(table, nothing, client);
     match place_of(groups.as_slice(), client) {
         Ok(at) => {
             groups[at].1.note(alloc, entry, op)?;
             Ok(())
         }
         Err(at) => {
-            let group = begun(alloc, entry, op)?;
+            let group = first_group(alloc, entry, op)?;
             groups.insert(at, group)?;
             Ok(())
         }
@@ -101,12 +105,13 @@ fn add_to_group(
 }
 
 /// The group of a client with its first operation.
-fn begun(alloc: Global, entry: &Entry, op: &Op) -> Result<Group, NoMemory>
+fn first_group(alloc: Global, entry: &Entry, op: &Op) -> Result<Group, NoMemory>
     requires entry { IsEntry (client_of op.now) entry.now }
     requires client { is_of_client op.now ≡ true }
     requires made { IsTrue (is_well_made op.now) }
     ensures client { IfOk result (λ group. group.0 ≡ client_of op.now) }
-    ensures fresh { IfOk result (λ group. IsBegun (client_of op.now) entry.now group.1 op.now) }
+    ensures fresh { IfOk result
+        (λ group. IsFirstChange (client_of op.now) entry.now group.1 op.now) }
 {
     let client = op.client().copied(alloc)?;
     let mut fresh = Fresh::new(alloc);
@@ -145,7 +150,7 @@ fn search(groups: &[Group], client: &ClientId) -> Result<usize, usize>
 }
 
 /// What is held of the client: the entry of the table, or else the one where nothing is.
-fn held<'a>(table: &'a Table, nothing: &'a Entry, client: &ClientId) -> &'a Entry
+fn entry_or_nothing<'a>(table: &'a Table, nothing: &'a Entry, client: &ClientId) -> &'a Entry
     requires { nothing.now ≡ nothing_held }
     ensures { result.now ≡ held_of client.now (by_client table.now.entries) }
 {
@@ -156,7 +161,7 @@ fn held<'a>(table: &'a Table, nothing: &'a Entry, client: &ClientId) -> &'a Entr
 }
 
 /// What is staged of each client once its group is taken.
-pub(crate) fn worked_out(
+pub(crate) fn staged_changes(
     alloc: Global,
     table: &Table,
     groups: Vec<Group>,
@@ -167,7 +172,7 @@ pub(crate) fn worked_out(
         rows_of (future (by_client table.now.entries) (staged_of changes.items))
         ≡ fresh_rows (by_client table.now.entries) groups.items) }
     ensures worked_out { IfOk result (λ changes.
-        AreWorkedOut (by_client table.now.entries) (staged_of changes.items)) }
+        AreChangesWorkedOut (by_client table.now.entries) (staged_of changes.items)) }
 {
     let nothing = Entry::empty(alloc);
     let made = changes_of(alloc, table, &nothing, groups);
@@ -189,17 +194,17 @@ fn changes_of(
         rows_of (future (by_client table.now.entries) (staged_of changes.items))
         ≡ fresh_rows (by_client table.now.entries) groups.items) }
     ensures worked_out { IfOk result (λ changes.
-        AreWorkedOut (by_client table.now.entries) (staged_of changes.items)) }
+        AreChangesWorkedOut (by_client table.now.entries) (staged_of changes.items)) }
 {
     let mut made = Vec::with_capacity(alloc, groups.len())?;
     for (client, fresh) in groups {
-        push_change(alloc, table, nothing, &mut made, &client, fresh)?;
+        stage_client(alloc, table, nothing, &mut made, &client, fresh)?;
     }
     Ok(made)
 }
 
 /// Puts what is staged of the client after the others.
-fn push_change(
+fn stage_client(
     alloc: Global,
     table: &Table,
     nothing: &Entry,
@@ -215,10 +220,12 @@ fn push_change(
           client.now,
           fresh_row client.now (held_of client.now (by_client table.now.entries)) fresh,
         ) ∷ []) }
-    ensures worked_out { AreWorkedOut (by_client table.now.entries) (staged_of made.old.items)
-        → OnOk result (AreWorkedOut (by_client table.now.entries) (staged_of made.new.items)) }
+    ensures worked_out { AreChangesWorkedOut (by_client table.now.entries)
+        (staged_of made.old.items)
+        → OnOk result (AreChangesWorkedOut (by_client table.now.entries)
+        (staged_of made.new.items)) }
 {
-    let change = fresh.into_change(alloc, held(table, nothing, client))?;
+    let change = fresh.into_change(alloc, entry_or_nothing(table, nothing, client))?;
     match copy_octets(alloc, client.bytes()) {
         Ok(key) => Ok(made.push((key, change))?),
         Err(fault) => {

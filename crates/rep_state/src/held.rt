@@ -7,7 +7,7 @@ ghost use Rattle.rep_op.specs.declared.op.Op.TheVariants.{Session as OfSession, 
 ghost use Rattle.rep_model.specs.declared.fault.TheConstants.{MOST_CLIENTS};
 ghost use Rattle.rep_shared.specs.Rows.{flat, own, has_any, count_named};
 ghost use Rattle.rep_shared.specs.inner.Rows.{named_rows};
-ghost use Rattle.rep_entry.specs.Entries.{row_of};
+ghost use Rattle.rep_entry.specs.Entries.{entry_row};
 ghost use Rattle.rep_log.specs.Kept.{of_log, of_mail};
 ghost use Rattle.rep_state.specs.Tables.{by_client, rows_of, ArePlaces};
 ghost use Rattle.rep_state.specs.inner.Tables.{own_of_all};
@@ -184,7 +184,7 @@ fn push_row(
     client: &ClientId,
     entry: &Entry,
 ) -> Result<(), NoMemory>
-    ensures { OnOk result (kept.new.items ≡ kept.old.items ++ row_of client.now entry.now) }
+    ensures { OnOk result (kept.new.items ≡ kept.old.items ++ entry_row client.now entry.now) }
 {
     push_log(alloc, kept, client, entry.known.as_slice())?;
     push_mail(alloc, kept, client, entry.seen.pending.as_slice())?;

@@ -3,9 +3,9 @@
 ghost use Rattle.std.specs.Prelude.{◌≡◌, ℕ, List, max};
 ghost use Rattle.rep_model.specs.Fresh.{greatest_epoch, seq_of, largest};
 ghost use Rattle.rep_shared.specs.Rows.{own};
-ghost use Rattle.rep_entry.specs.Entries.{row_of};
+ghost use Rattle.rep_entry.specs.Entries.{entry_row};
 ghost use Rattle.rep_log.specs.Mail.{Rising};
-ghost use Rattle.rep_entry.specs.inner.Numbers.{epoch_of, seq_from};
+ghost use Rattle.rep_entry.specs.inner.Numbers.{operation_epoch, seq_from};
 ghost use Rattle.rep_state.specs.Tables.{by_client, rows_of, AreKept};
 ghost use Rattle.std.specs.Map.{keys_of};
 
@@ -40,7 +40,7 @@ pub(crate) fn last_seq(table: &Table, client: &ClientId, gateway: u8) -> u64
 
 /// The greatest epoch of the operations, or 0.
 fn greatest_epoch(ops: &[NamedOp]) -> u64
-    ensures { result ≡ largest epoch_of (keys_of ops.now) }
+    ensures { result ≡ largest operation_epoch (keys_of ops.now) }
 {
     let mut most = 0;
     let mut i = ops.len();
@@ -54,7 +54,7 @@ fn greatest_epoch(ops: &[NamedOp]) -> u64
 /// The greatest sequence number of the gateway that the entry names, or 0.
 fn greatest_seq(entry: &Entry, gateway: u8) -> u64
     requires { Rising entry.now.seen.pending }
-    ensures { (c : List ℕ) → result ≡ largest (seq_of c gateway) (row_of c entry.now) }
+    ensures { (c : List ℕ) → result ≡ largest (seq_of c gateway) (entry_row c entry.now) }
 {
     let sent = greatest_put(entry.seen.pending.as_slice(), gateway);
     let taken = greatest_end(entry.acks.numbers(gateway));

@@ -4,11 +4,11 @@ ghost use Rattle.std.specs.Prelude.{◌≡◌};
 
 use super::agreeing::check;
 use super::asides::{count_all, put_all_back, save_all};
-use super::grouping::{grown, worked_out};
+use super::grouping::{changes_by_client, staged_changes};
 use super::held::{kept_ops, named_at, named_clients, next_asking};
 use super::numbers::{last_epoch, last_seq};
 use super::places::Place;
-use super::room::{make_room, move_in};
+use super::room::{install_changes, make_room};
 use super::table::{Table, count_new, entry_of, passed};
 use indexmap::IndexMap;
 use octets::NoMemory;
@@ -38,12 +38,12 @@ impl Model for FoldedClients {
 
     ghost Value = { List (List ℕ × List Op) };
 
-    ghost use Rattle.rep_state.specs.Tables.{by_client, rows_of, IsTable, ArePlaces};
+    ghost use Rattle.rep_state.specs.Tables.{by_client, rows_of, IsEntryTable, ArePlaces};
     ghost use Rattle.rep_state.specs.Interests.{AreMarked};
 
     ghost view = { λ p. rows_of (by_client p.table.entries) };
 
-    ghost invariant = { λ p. IsTable (by_client p.table.entries) p.named
+    ghost invariant = { λ p. IsEntryTable (by_client p.table.entries) p.named
         × ArePlaces p.table.entries p.places.items
         × AreMarked (by_client p.table.entries) p.places.items };
 }
@@ -72,19 +72,19 @@ impl Model for Staged {
 
 impl ClientSet for FoldedClients {
     ghost use Rattle.std.specs.Prelude.{◌≡◌};
-    ghost use Rattle.rep_shared.specs.Rows.{flat, moved, count_named, CanGoBack, AreSaved};
-    ghost use Rattle.rep_entry.specs.Staging.{planned, AreReady};
+    ghost use Rattle.rep_shared.specs.Rows.{flat, rows_with, count_named, CanGoBack, AreSaved};
+    ghost use Rattle.rep_entry.specs.Staging.{planned_rows, AreReady};
 
     type Staged = Staged;
 
     ghost kept = { λ rows. flat rows };
 
-    ghost after = { λ rows staged. flat (moved rows (planned rows staged.0)) };
+    ghost after = { λ rows staged. flat (rows_with rows (planned_rows rows staged.0)) };
 
     ghost ready = { λ rows staged. AreReady rows staged.0
-        × (staged.1 ≡ count_named (moved rows (planned rows staged.0))) };
+        × (staged.1 ≡ count_named (rows_with rows (planned_rows rows staged.0))) };
 
-    ghost back = { λ rows aside. flat (moved rows aside) };
+    ghost back = { λ rows aside. flat (rows_with rows aside) };
 
     ghost can_go_back = { λ rows aside. CanGoBack rows aside };
 
@@ -100,8 +100,8 @@ impl ClientSet for FoldedClients {
 
     fn prepare(&mut self, alloc: Global, ops: &[Op]) -> Result<Staged, TakeFault> {
         check(alloc, &self.table, ops)?;
-        let groups = grown(alloc, &self.table, ops)?;
-        let changes = worked_out(alloc, &self.table, groups)?;
+        let groups = changes_by_client(alloc, &self.table, ops)?;
+        let changes = staged_changes(alloc, &self.table, groups)?;
         let named = self.named + count_new(&self.table, changes.as_slice());
         if let Some(limit) = passed(named, changes.as_slice()) {
             return Err(TakeFault::Full { limit });
@@ -112,7 +112,7 @@ impl ClientSet for FoldedClients {
 
     fn commit(&mut self, staged: Staged) {
         let Staged { changes, named } = staged;
-        move_in(&mut self.table, &mut self.places, changes);
+        install_changes(&mut self.table, &mut self.places, changes);
         self.named = named;
     }
 

@@ -4,15 +4,15 @@ ghost use Rattle.std.specs.Prelude.{◌≡◌, IsSome, IsTrue, is_some, IfOk, On
 ghost use Rattle.std.specs.FinMap.{find, put};
 ghost use Rattle.sn_tables.specs.Tables.{is_ascending};
 ghost use Rattle.rep_op.specs.Orders.{client_cmp};
-ghost use Rattle.rep_shared.specs.Rows.{moved};
+ghost use Rattle.rep_shared.specs.Rows.{rows_with};
 ghost use Rattle.rep_state.specs.Tables.{by_client, rows_of, AreKept, ArePlaces};
 ghost use Rattle.rep_state.specs.inner.Tables.{IsRoomier, place_cmp};
 ghost use Rattle.rep_state.specs.Interests.{AreMarked};
-ghost use Rattle.rep_state.specs.inner.Interests.{AreMarksOf, noted};
+ghost use Rattle.rep_state.specs.inner.Interests.{AreMarksOf, marks_noted};
 ghost use Rattle.rep_state.specs.inner.Groups.{held_of, base_at};
 ghost use Rattle.rep_entry.specs.Staging.{staged_of, IsChange, IsReady, AreStaged};
-ghost use Rattle.rep_state.specs.inner.Staging.{future, HaveRoom, AreMovable};
-ghost use Rattle.rep_entry.specs.Applied.{applied};
+ghost use Rattle.rep_state.specs.inner.Staging.{future, HavePlaces, AreMovable};
+ghost use Rattle.rep_entry.specs.Applied.{entry_applied};
 ghost use Rattle.rep_state.specs.declared.places.Place.{Place as AtPlace};
 
 use super::places::{Place, enter, mark_place};
@@ -35,7 +35,7 @@ pub(crate) fn make_room(
     ensures places { ArePlaces table.new.entries places.new.items }
     ensures marks { AreMarked (by_client table.new.entries) places.new.items }
     ensures roomier { IsRoomier (by_client table.old.entries) (by_client table.new.entries) }
-    ensures room { OnOk result (HaveRoom (by_client table.new.entries) (staged_of changes.now)) }
+    ensures room { OnOk result (HavePlaces (by_client table.new.entries) (staged_of changes.now)) }
 {
     for row in changes {
         add_place(alloc, table, places, row.0.as_slice())?;
@@ -88,7 +88,7 @@ pub(crate) fn named(alloc: Global, client: &[u8]) -> Result<ClientId, NoMemory>
 }
 
 /// Moves the changes into their places, and notes what their clients may ask for.
-pub(crate) fn move_in(
+pub(crate) fn install_changes(
     table: &mut Table,
     places: &mut Vec<Place>,
     mut changes: Vec<(Vec<u8>, Change)>,
@@ -99,7 +99,7 @@ pub(crate) fn move_in(
     requires places { ArePlaces table.old.entries places.old.items }
     requires marks { AreMarked (by_client table.old.entries) places.old.items }
     ensures rows { rows_of (by_client table.new.entries)
-        ≡ moved (rows_of (by_client table.old.entries))
+        ≡ rows_with (rows_of (by_client table.old.entries))
         (rows_of (future (by_client table.old.entries) (staged_of changes.items))) }
     ensures kept { AreKept (by_client table.new.entries) }
     ensures places { ArePlaces table.new.entries places.new.items }
@@ -125,7 +125,7 @@ fn marks_with(log: &Option<Log>) -> Option<u64>
 /// Notes the marks of what a client may ask for, where there are any.
 fn note_marks(places: &mut Vec<Place>, client: &[u8], marks: Option<u64>)
     requires { IsTrue (is_ascending place_cmp places.old.items) }
-    ensures { places.new.items ≡ noted client.now marks places.old.items }
+    ensures { places.new.items ≡ marks_noted client.now marks places.old.items }
 {
     if let Some(marks) = marks {
         mark_place(places, client, marks);
@@ -143,7 +143,7 @@ fn move_one(table: &mut Table, client: &[u8], change: Change)
         change }
     ensures put { by_client table.new.entries
         ≡ put client_cmp client.now
-        (applied (held_of client.now (by_client table.old.entries)) change)
+        (entry_applied (held_of client.now (by_client table.old.entries)) change)
         (by_client table.old.entries) }
     ensures places { (places : List AtPlace)
         → ArePlaces table.old.entries places → ArePlaces table.new.entries places }

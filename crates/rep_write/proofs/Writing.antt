@@ -3,15 +3,15 @@ use Rattle.std.proofs.Common.{◌≡◌, ℕ, List, ◌++◌, ◌≤◌, length,
 use Rattle.std.proofs.lemmas.List.{take_all, take-take, length-append, take_at}
 use Rattle.std.specs.Prelude.{Result, Ok, Err}
 use Rattle.octets.specs.declared.memory.NoMemory.{NoMemory}
-use Rattle.rep_write.specs.Writing.{Keeps, Writes}
+use Rattle.rep_write.specs.Writing.{KeepsFront, Writes}
 
-pub keeps_itself : (old : List ℕ) → Keeps old old
+pub keeps_itself : (old : List ℕ) → KeepsFront old old
 keeps_itself old = take_all (length old) old (omega arith)
 
-pub keeps_more : (old text new : List ℕ) → new ≡ old ++ text → Keeps old new
+pub keeps_more : (old text new : List ℕ) → new ≡ old ++ text → KeepsFront old new
 keeps_more old text new e = rw e (take_at old text (length old) refl)
 
-pub keeps_through : (old text mid new : List ℕ) → mid ≡ old ++ text → Keeps mid new → Keeps old new
+pub keeps_through : (old text mid new : List ℕ) → mid ≡ old ++ text → KeepsFront mid new → KeepsFront old new
 keeps_through old text mid new e keeps =
     let len : length old ≤ length mid = omega (arith, ap length e, length-append old text) in
     sym (take-take (length old) (length mid) new len) ∙ (ap (take (length old)) keeps ∙ (ap (take (length old)) e ∙ take_at old text (length old) refl))

@@ -6,7 +6,7 @@ ghost use Rattle.std.specs.Prelude.{◌≡◌, ◌<◌, ◌^◌, ◌++◌, ◌�
 ghost use Rattle.std.specs.List.{flat_map};
 ghost use Rattle.byteorder.specs.Endian.{big_bytes};
 ghost use Rattle.rep_op.specs.Ranges.{is_will, is_session, is_change};
-ghost use Rattle.rep_op.specs.Sessions.{text_octets, flag_octet, presence_octet, phase_octet, table_octets, option_octets, topic_octets, subscription_octets, will_octets, will_topic_octets, exchange_octets, session_octets, change_octets};
+ghost use Rattle.rep_op.specs.Sessions.{text_octets, flag_octet, presence_octet, phase_octet, table_octets, option_octets, topic_octets, subscription_octets, session_will_octets, will_topic_octets, exchange_octets, session_octets, change_octets};
 ghost use Rattle.rep_write.specs.Writing.{Writes};
 
 use octets::{NoMemory, append_u16, append_u64};
@@ -182,7 +182,8 @@ fn write_asked(
 /// Writes a will.
 fn write_will(out: &mut Vec<u8>, will: &Option<Will>) -> Result<(), NoMemory>
     requires { IsTrue (is_will will.now) }
-    ensures { Writes (option_octets will_octets will.now) out.old.items out.new.items result }
+    ensures { Writes (option_octets session_will_octets will.now) out.old.items out.new.items
+        result }
 {
     match will {
         None => write_octet(out, 0),
@@ -242,7 +243,7 @@ fn write_head(out: &mut Vec<u8>, session: &Session) -> Result<(), NoMemory>
 /// Writes the parts of a session that stand after its subscriptions.
 fn write_later_parts(out: &mut Vec<u8>, session: &Session) -> Result<(), NoMemory>
     requires { IsTrue (is_will session.now.will) }
-    ensures { Writes (option_octets will_octets session.now.will
+    ensures { Writes (option_octets session_will_octets session.now.will
         ++ table_octets (big_bytes 2) session.now.received
         ++ option_octets exchange_octets session.now.outbound) out.old.items
         out.new.items result }

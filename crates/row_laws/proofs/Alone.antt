@@ -9,7 +9,7 @@ use Rattle.sn_tables.proofs.Ascending.{all_weaker, all_with}
 use Rattle.rep_op.specs.Sets.{same_client}
 use Rattle.sn_local.specs.declared.config.Addr.{Addr}
 use Rattle.sn_local.specs.declared.local.Binding.{Binding}
-use Rattle.sn_local.specs.Bindings.{same_address, binding_cmp, is_apart, bound, client_at}
+use Rattle.sn_local.specs.Bindings.{same_address, binding_cmp, is_other_binding, bound, client_at}
 use Rattle.sn_local.proofs.Entries.{same_client-itself}
 
 same_address-itself : (a : Addr) → same_address a a ≡ true
@@ -33,7 +33,7 @@ module _ (a : Addr) (c : List ℕ) where
   first : (xs : List Binding) → client_at a (new ∷ xs) ≡ Some c
   first xs = ap (λ t. if t then Some c else client_at a xs) (same_address-itself a)
 
-  passed : (kept : List Binding) → AllByRecursion (λ b. is_apart a c b ≡ true) kept → client_at a (with_entry binding_cmp new kept) ≡ Some c
+  passed : (kept : List Binding) → AllByRecursion (λ b. is_other_binding a c b ≡ true) kept → client_at a (with_entry binding_cmp new kept) ≡ Some c
   passed [] h = first []
   passed (b ∷ kept) h =
       let other : same_address b.address a ≡ false = false_of (same_address b.address a) (and_parts (not (same_address b.address a)) (not (same_client b.client c)) h.0).0 in
@@ -44,9 +44,9 @@ module _ (a : Addr) (c : List ℕ) where
       ]
 
   pub bound-client : (bindings : List Binding) → client_at a (bound a c bindings) ≡ Some c
-  bound-client bindings = passed (filter (is_apart a c) bindings) (all-kept (is_apart a c) bindings)
+  bound-client bindings = passed (filter (is_other_binding a c) bindings) (all-kept (is_other_binding a c) bindings)
 
-  apart-neither : (b : Binding) → is_apart a c b ≡ true → (b.address ≡ a) ⊎ (b.client ≡ c) → ⊥
+  apart-neither : (b : Binding) → is_other_binding a c b ≡ true → (b.address ≡ a) ⊎ (b.client ≡ c) → ⊥
   apart-neither b h (inl e) = true≢false (sym (ap (λ x. same_address x a) e ∙ same_address-itself a) ∙ false_of (same_address b.address a) (and_parts (not (same_address b.address a)) (not (same_client b.client c)) h).0)
   apart-neither b h (inr e) = true≢false (sym (ap (λ x. same_client x c) e ∙ same_client-itself c) ∙ false_of (same_client b.client c) (and_parts (not (same_address b.address a)) (not (same_client b.client c)) h).1)
 
@@ -56,8 +56,8 @@ module _ (a : Addr) (c : List ℕ) where
 
   all-alone : (bindings : List Binding) → AllByRecursion Alone (bound a c bindings)
   all-alone bindings =
-      all_with binding_cmp Alone new (filter (is_apart a c) bindings) (λ _. (refl, refl))
-      (all_weaker (λ b. is_apart a c b ≡ true) Alone (λ b h either. absurd (apart-neither b h either)) (filter (is_apart a c) bindings) (all-kept (is_apart a c) bindings))
+      all_with binding_cmp Alone new (filter (is_other_binding a c) bindings) (λ _. (refl, refl))
+      (all_weaker (λ b. is_other_binding a c b ≡ true) Alone (λ b h either. absurd (apart-neither b h either)) (filter (is_other_binding a c) bindings) (all-kept (is_other_binding a c) bindings))
 
   pub bound-alone : (bindings : List Binding) (b : Binding) → Contains (bound a c bindings) b → (b.address ≡ a) ⊎ (b.client ≡ c) → (b.address ≡ a) × (b.client ≡ c)
   bound-alone bindings b h = All-contains Alone (bound a c bindings) b (All-from_recursion Alone (bound a c bindings) (all-alone bindings)) h

@@ -7,10 +7,10 @@ use Rattle.sn_session.specs.declared.change.SessionOp.TheVariants.{Take}
 use Rattle.sn_session.specs.Session.{applied, empty_session}
 use Rattle.rep_op.specs.declared.op.Op.{Op}
 use Rattle.rep_op.specs.declared.op.Op.TheVariants.{Session as OfSession}
-use Rattle.rep_model.specs.Views.{visible, history, session_of, view}
+use Rattle.rep_model.specs.Views.{visible, history, session_made, view}
 use Rattle.rep_model.specs.Fresh.{one_more, next_epoch}
 use Rattle.sn_plan.specs.Flush.{stamp_of, IsFlush}
-use Rattle.sn_plan.specs.Numbering.{Written, another, taken_at, taken, counted, write, written, start_of, own_counter, epoch_of}
+use Rattle.sn_plan.specs.Numbering.{Written, another, taken_at, taken, counted, write, changes_written, start_of, own_counter, epoch_of}
 use Rattle.sn_plan.specs.Own.{AreFresh}
 use Rattle.sn_plan.proofs.Lists.{and_then-some, map-some}
 use Rattle.row_laws.proofs.Reached.{At, another-at, taken-at, unused}
@@ -35,7 +35,7 @@ some-unwrap : {X : Type 0} (o : Option X) (d : X) → is_some o ≡ true → o �
 some-unwrap None d h = absurd (true≢false (sym h))
 some-unwrap (Some x) d h = refl
 
-begun-length : (h : List SessionOp) → is_some (session_of h) ≡ true → 1 ≤ length h
+begun-length : (h : List SessionOp) → is_some (session_made h) ≡ true → 1 ≤ length h
 begun-length [] e = absurd (true≢false (sym e))
 begun-length (x ∷ h) e = omega arith
 
@@ -60,22 +60,22 @@ module _ (g : ℕ) (c : List ℕ) (S : List Op) where
   still_ready : (w : Written) → Reached g c S w → Ready g c S w
   still_ready w r = record { numbered = r.at.numbered; at = λ _. r.at; fresh = r.fresh }
 
-  start-at : IsFlush g c S → nat_lt (own_counter g (length (history c S)) (visible c S)) 256 ≡ true → At g c S (epoch_of (visible c S)) (own_counter g (length (history c S)) (visible c S)) (next_epoch c S) (unwrap_or (session_of (history c S)) empty_session)
+  start-at : IsFlush g c S → nat_lt (own_counter g (length (history c S)) (visible c S)) 256 ≡ true → At g c S (epoch_of (visible c S)) (own_counter g (length (history c S)) (visible c S)) (next_epoch c S) (unwrap_or (session_made (history c S)) empty_session)
   start-at flush lt =
-      elim (visible c S) as (λ v. visible c S ≡ v → nat_lt (own_counter g (length (history c S)) v) 256 ≡ true → At g c S (epoch_of v) (own_counter g (length (history c S)) v) (next_epoch c S) (unwrap_or (session_of (history c S)) empty_session)) [
+      elim (visible c S) as (λ v. visible c S ≡ v → nat_lt (own_counter g (length (history c S)) v) 256 ≡ true → At g c S (epoch_of v) (own_counter g (length (history c S)) v) (next_epoch c S) (unwrap_or (session_made (history c S)) empty_session)) [
         | None ↦ λ _ h. absurd (true≢false (sym h))
-        | Some stamp ↦ λ is. elim (stamp.gateway == g) as (λ b. (stamp.gateway == g) ≡ b → nat_lt (if b then length (history c S) else 256) 256 ≡ true → At g c S stamp.epoch (if b then length (history c S) else 256) (next_epoch c S) (unwrap_or (session_of (history c S)) empty_session)) [
+        | Some stamp ↦ λ is. elim (stamp.gateway == g) as (λ b. (stamp.gateway == g) ≡ b → nat_lt (if b then length (history c S) else 256) 256 ≡ true → At g c S stamp.epoch (if b then length (history c S) else 256) (next_epoch c S) (unwrap_or (session_made (history c S)) empty_session)) [
           | true ↦ λ mine _.
               let gateway : stamp.gateway ≡ g = eqb-true stamp.gateway g mine in
               let same : stamp ≡ stamp_of stamp.epoch g = λ i. record { epoch = stamp.epoch; gateway = gateway i } in
               let seen : visible c S ≡ Some (stamp_of stamp.epoch g) = is ∙ ap Some same in
-              let there : is_some (session_of (history c S)) ≡ true = flush.begun stamp.epoch seen in
+              let there : is_some (session_made (history c S)) ≡ true = flush.begun stamp.epoch seen in
               record {
                 numbered = refl;
                 seen = seen;
                 begun = begun-length (history c S) there;
                 prefix = refl;
-                made = some-unwrap (session_of (history c S)) empty_session there;
+                made = some-unwrap (session_made (history c S)) empty_session there;
                 behind = λ k. flush.nothing_behind stamp.epoch k seen;
               }
           | false ↦ λ _ h. absurd (true≢false (sym h))
@@ -85,14 +85,14 @@ module _ (g : ℕ) (c : List ℕ) (S : List Op) where
   start-ready : IsFlush g c S → Ready g c S (start_of g (view c S) (next_epoch c S))
   start-ready flush = record {
     numbered = ap (next_epoch c) (sym (append-nil S));
-    at = λ lt. subst (λ T. At g c T (epoch_of (visible c S)) (own_counter g (length (history c S)) (visible c S)) (next_epoch c S) (unwrap_or (session_of (history c S)) empty_session)) (sym (append-nil S)) (start-at flush lt);
+    at = λ lt. subst (λ T. At g c T (epoch_of (visible c S)) (own_counter g (length (history c S)) (visible c S)) (next_epoch c S) (unwrap_or (session_made (history c S)) empty_session)) (sym (append-nil S)) (start-at flush lt);
     fresh = tt;
   }
 
-  pub written-reached : IsFlush g c S → (change : SessionOp) (rest : List SessionOp) (w : Written) → written c g (change ∷ rest) (start_of g (view c S) (next_epoch c S)) ≡ Some w → Reached g c S w
+  pub written-reached : IsFlush g c S → (change : SessionOp) (rest : List SessionOp) (w : Written) → changes_written c g (change ∷ rest) (start_of g (view c S) (next_epoch c S)) ≡ Some w → Reached g c S w
   written-reached flush change rest w e = written-gives c g (Ready g c S) (Reached g c S) still_ready by_another by_taken change rest (start_of g (view c S) (next_epoch c S)) w (start-ready flush) e
 
-  pub written-fresh : IsFlush g c S → (changes : List SessionOp) (w : Written) → written c g changes (start_of g (view c S) (next_epoch c S)) ≡ Some w → AreFresh S w.ops
+  pub written-fresh : IsFlush g c S → (changes : List SessionOp) (w : Written) → changes_written c g changes (start_of g (view c S) (next_epoch c S)) ≡ Some w → AreFresh S w.ops
   written-fresh flush [] w e = subst (λ (x : Written). AreFresh S x.ops) (same_Some (start_of g (view c S) (next_epoch c S)) w e) tt
   written-fresh flush (change ∷ rest) w e = (written-reached flush change rest w e).fresh
 
@@ -115,8 +115,8 @@ module _ (c : List ℕ) (g : ℕ) where
   write-session (Take session) w x e = taken-session session w x e
   write-session change w x e = counted-session change w x e
 
-  pub written-session : (changes : List SessionOp) (w x : Written) → written c g changes w ≡ Some x → x.session ≡ fold applied w.session changes
+  pub written-session : (changes : List SessionOp) (w x : Written) → changes_written c g changes w ≡ Some x → x.session ≡ fold applied w.session changes
   written-session [] w x e = ap (λ (y : Written). y.session) (sym (same_Some w x e))
   written-session (change ∷ rest) w x e =
-      let m = and_then-some (written c g rest) (write c g change w) x e in
+      let m = and_then-some (changes_written c g rest) (write c g change w) x e in
       written-session rest m.0 x m.2 ∙ ap (λ s. fold applied s rest) (write-session change w m.0 m.1)

@@ -25,22 +25,22 @@ use Rattle.sn_local.specs.Bindings.{client_at}
 use Rattle.sn_local.specs.WillDialogs.{dialog_at}
 use Rattle.sn_local.specs.Locals.{Local}
 use Rattle.sn_plan.specs.Bound.{session_of}
-use Rattle.sn_plan.specs.Rows.{row_of, heard_row, plan_for, plan_of_row, stray}
+use Rattle.sn_plan.specs.Rows.{row_of, row_with_timer, plan_for, plan_of_row, unexpected_row}
 use Rattle.sn_flow.specs.Accept.{accept, has_no_room}
 use Rattle.sn_flow.specs.Connection.{has_bit, request_of, refusal_of, ask_topic, connect_row, connect, leave, fall_asleep, disconnect_draft, disconnect_of, disconnect}
-use Rattle.sn_flow.specs.Wills.{congestion, not_supported, will_of, dismissed, concluded, topic_given, topic_row, message_row, topic_in, topic_at, will_topic, message_in, message_at, will_msg, topic_update_of, will_topic_update as update_topic, message_update_of, will_msg_update as update_message}
+use Rattle.sn_flow.specs.Wills.{congestion, not_supported, will_of, dismissed, concluded, topic_given, topic_row, message_row, will_topic_in, will_topic_from, will_topic, message_in, will_message_from, will_msg, topic_update_of, will_topic_update as update_topic, message_update_of, will_msg_update as update_message}
 use Rattle.sn_flow.specs.WillUpdate.{topic_asked}
 use Rattle.sn_subscribe.specs.Handing.{waiting_for}
 use Rattle.sn_subscribe.specs.TopicRows.{register_of, register as register_topic, subscribe_of, subscribe as subscribe_topics, unsubscribe_of, unsubscribe as unsubscribe_topics}
 use Rattle.sn_plan.specs.Others.{other}
-use Rattle.sn_plan.specs.Own.{IsApart, IsOfDraft, MakesNoMessage}
+use Rattle.sn_plan.specs.Own.{PutsApart, IsOfDraft, MakesNoMessage}
 use Rattle.sn_plan.proofs.Made.{SameMade, for_nobody, no_puts, no_handed, no_retain}
 use Rattle.row_laws.specs.RequestLaws.{HandsNothing}
 use Rattle.row_laws.proofs.Keeping.{of_register, of_subscribe, of_unsubscribe, of_will_topic_update, of_will_msg_update}
 
 module _ (g : ℕ) (seen : Seen) (plan : Plan) where
   -- what is retained, messages, frames and local changes are the plan of a draft for any client
-  puts-drafted : (d : Drafted) → IsApart d → plan_of_puts g seen d ≡ Some plan → IsOfDraft g seen plan
+  puts-drafted : (d : Drafted) → PutsApart d → plan_of_puts g seen d ≡ Some plan → IsOfDraft g seen plan
   unfolding planned
   puts-drafted d apart e = record {
     client = [];
@@ -49,12 +49,12 @@ module _ (g : ℕ) (seen : Seen) (plan : Plan) where
     is = e;
   }
 
-  for-drafted : (d : Drafted) (client : Option (List ℕ)) → IsApart d → plan_for g seen d client ≡ Some plan → IsOfDraft g seen plan
+  for-drafted : (d : Drafted) (client : Option (List ℕ)) → PutsApart d → plan_for g seen d client ≡ Some plan → IsOfDraft g seen plan
   for-drafted d None apart e = puts-drafted d apart e
   for-drafted d (Some c) apart e = record { client = c; draft = d; apart = apart; is = e }
 
 -- the plan of a row is the plan of a draft
-pub row-drafted : (g : ℕ) (seen : Seen) (row : Row) (plan : Plan) → IsApart row.draft → plan_of_row g seen row ≡ Some plan → IsOfDraft g seen plan
+pub row-drafted : (g : ℕ) (seen : Seen) (row : Row) (plan : Plan) → PutsApart row.draft → plan_of_row g seen row ≡ Some plan → IsOfDraft g seen plan
 row-drafted g seen row plan apart e = for-drafted g seen plan row.draft row.client apart e
 
 -- the row makes no message, hands nothing and retains nothing
@@ -67,11 +67,11 @@ no-message row h = (no_puts row.draft h, no_handed row.draft h, no_retain row.dr
 hands-nothing : (d : Drafted) → HandsNothing d → SameMade d nothing
 hands-nothing d h = λ i. (h.leaves.puts i, h.handed i, h.leaves.retain i)
 
-heard-made : (bound : Option (List ℕ)) (now : ℕ) (row : Row) → MakesNothing row → MakesNothing (heard_row bound now row)
+heard-made : (bound : Option (List ℕ)) (now : ℕ) (row : Row) → MakesNothing row → MakesNothing (row_with_timer bound now row)
 heard-made None now row h = h
 heard-made (Some c) now row h = h
 
-pub stray-made : (a : Addr) (bound : Option (List ℕ)) (now : ℕ) → MakesNothing (stray a bound now)
+pub stray-made : (a : Addr) (bound : Option (List ℕ)) (now : ℕ) → MakesNothing (unexpected_row a bound now)
 stray-made a None now = refl
 stray-made a (Some c) now = refl
 
@@ -132,11 +132,11 @@ message-made seen request topic message now =
     either (nat_lt 4096 (length message)) (dismissed request not_supported) (concluded seen request (Replaced (will_of topic message)) now) refl (concluded-made seen request (Replaced (will_of topic message)) now)
 
 module _ (seen : Seen) (a : Addr) (now : ℕ) where
-  topic_in-made : (bound : Option (List ℕ)) (dialog : WillDialog) (will : Option Will) (awaited : Awaited) → MakesNothing (topic_in seen a bound dialog will now awaited)
+  topic_in-made : (bound : Option (List ℕ)) (dialog : WillDialog) (will : Option Will) (awaited : Awaited) → MakesNothing (will_topic_in seen a bound dialog will now awaited)
   topic_in-made bound dialog will Topic = heard-made bound now (topic_row seen dialog will now) (topic-made seen dialog will now)
   topic_in-made bound dialog will (Message topic) = stray-made a bound now
 
-  topic_at-made : (bound : Option (List ℕ)) (dialog : Option WillDialog) (will : Option Will) → MakesNothing (topic_at seen a bound dialog will now)
+  topic_at-made : (bound : Option (List ℕ)) (dialog : Option WillDialog) (will : Option Will) → MakesNothing (will_topic_from seen a bound dialog will now)
   topic_at-made bound None will = stray-made a bound now
   topic_at-made bound (Some dialog) will = topic_in-made bound dialog will dialog.awaited
 
@@ -144,7 +144,7 @@ module _ (seen : Seen) (a : Addr) (now : ℕ) where
   message_in-made bound request message Topic = stray-made a bound now
   message_in-made bound request message (Message topic) = heard-made bound now (message_row seen request topic message now) (message-made seen request topic message now)
 
-  message_at-made : (bound : Option (List ℕ)) (dialog : Option WillDialog) (message : List ℕ) → MakesNothing (message_at seen a bound dialog message now)
+  message_at-made : (bound : Option (List ℕ)) (dialog : Option WillDialog) (message : List ℕ) → MakesNothing (will_message_from seen a bound dialog message now)
   message_at-made bound None message = stray-made a bound now
   message_at-made bound (Some dialog) message = message_in-made bound dialog.request message dialog.awaited
 

@@ -7,7 +7,7 @@ use Rattle.sn_session.specs.declared.session.Session.{Session}
 use Rattle.rep_op.specs.declared.op.Op.{Op}
 use Rattle.rep_op.specs.Orders.{stamp_cmp, operation_cmp}
 use Rattle.rep_op.specs.Sets.{Same, same_client, operations, operation_at}
-use Rattle.rep_model.specs.Views.{visible, gapless, history_at, history, session_of}
+use Rattle.rep_model.specs.Views.{visible, gapless, history_at, history, session_made}
 use Rattle.rep_model.proofs.Lookup.{or_else}
 use Rattle.rep_model.proofs.Greatest.{has, same_greatest}
 use Rattle.rep_model.proofs.Readers.{stamp_total, stamp_exact, same_client-true, operation_at_both, takes, has_take}
@@ -16,7 +16,7 @@ use Rattle.sn_plan.specs.declared.plan.Plan.{Plan}
 use Rattle.sn_plan.specs.Drafts.{Drafted}
 use Rattle.sn_local.specs.Seen.{seen_of}
 use Rattle.sn_plan.specs.Plans.{plan_of}
-use Rattle.sn_plan.specs.Own.{AddsNone}
+use Rattle.sn_plan.specs.Own.{AddsNothingOwn}
 use Rattle.sn_plan.specs.Flush.{stamp_of, IsFlush}
 use Rattle.sn_local.proofs.Entries.{visible-same, same_client-itself, visible-by, visible-there, history-by}
 use Rattle.row_laws.proofs.Reached.{At, history-own}
@@ -28,7 +28,7 @@ flush-by g c A B same flush =
     let seen : visible c A ≡ visible c B = visible-by c A B same in
     let done : history c A ≡ history c B = history-by c A B same in
     record {
-      begun = λ epoch e. ap (λ h. is_some (session_of h)) (sym done) ∙ flush.begun epoch (seen ∙ e);
+      begun = λ epoch e. ap (λ h. is_some (session_made h)) (sym done) ∙ flush.begun epoch (seen ∙ e);
       nothing_behind = λ epoch k e le. ap (λ es. find operation_cmp (stamp_of epoch g, k) es) (sym same) ∙ flush.nothing_behind epoch k (seen ∙ e) (subst (λ h. length h ≤ k) (sym done) le);
     }
 
@@ -61,7 +61,7 @@ known (Some x) b f = refl
 known None None f = refl
 known None (Some y) f = sym (f y refl)
 
-module _ (g : ℕ) (c : List ℕ) (S D : List Op) (none : AddsNone g c S D) where
+module _ (g : ℕ) (c : List ℕ) (S D : List Op) (none : AddsNothingOwn g c S D) where
   -- at the gateway's own stamps nothing is new
   own-same : (epoch k : ℕ) → operation_at c (S ++ D) (stamp_of epoch g, k) ≡ operation_at c S (stamp_of epoch g, k)
   own-same epoch k = operation_at_both c S D (stamp_of epoch g, k) ∙ known (operation_at c S (stamp_of epoch g, k)) (operation_at c D (stamp_of epoch g, k)) (none epoch k)
@@ -81,7 +81,7 @@ module _ (g : ℕ) (c : List ℕ) (S D : List Op) (none : AddsNone g c S D) wher
       ∙ ap (λ (at : ℕ → Option SessionOp). gapless at 256 0) (λ i k. own-same epoch k i)
       ∙ sym (history-own c S (stamp_of epoch g) (before epoch e)) in
       record {
-        begun = λ epoch e. ap (λ h. is_some (session_of h)) (done epoch e) ∙ flush.begun epoch (before epoch e);
+        begun = λ epoch e. ap (λ h. is_some (session_made h)) (done epoch e) ∙ flush.begun epoch (before epoch e);
         nothing_behind = λ epoch k e le. own-same epoch k ∙ flush.nothing_behind epoch k (before epoch e) (subst (λ h. length h ≤ k) (done epoch e) le);
       }
 
@@ -97,6 +97,6 @@ flush-same g c A B same flush =
     let seen : visible c A ≡ visible c B = visible-same c A B (λ s. ap is_some (same.operations_same c (s, 0))) in
     let done : history c A ≡ history c B = λ i. history_at (λ name. same.operations_same c name i) (seen i) in
     record {
-      begun = λ epoch e. ap (λ h. is_some (session_of h)) (sym done) ∙ flush.begun epoch (seen ∙ e);
+      begun = λ epoch e. ap (λ h. is_some (session_made h)) (sym done) ∙ flush.begun epoch (seen ∙ e);
       nothing_behind = λ epoch k e le. sym (same.operations_same c (stamp_of epoch g, k)) ∙ flush.nothing_behind epoch k (seen ∙ e) (subst (λ h. length h ≤ k) (sym done) le);
     }

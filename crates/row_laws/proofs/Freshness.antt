@@ -24,7 +24,7 @@ use Rattle.sn_plan.specs.Drafts.{Drafted}
 use Rattle.sn_plan.specs.Numbering.{put_at_seq, with_puts, handed_at_seq, with_handed, retain_at_clock, with_retain, ack_of}
 use Rattle.sn_local.specs.Seen.{seen_of}
 use Rattle.sn_plan.specs.Plans.{plan_of}
-use Rattle.sn_plan.specs.Own.{AreFresh, IsOneEach, IsApart}
+use Rattle.sn_plan.specs.Own.{AreFresh, IsOneEach, PutsApart}
 use Rattle.sn_plan.specs.Flush.{IsFlush}
 use Rattle.sn_plan.proofs.Lists.{and_then-some, map-some, all-append, all-weaken, all-map, all-both, all-given}
 use Rattle.sn_local.proofs.Entries.{same_client-itself, same_client-apart, by_some, none_or, or_none, puts-other}
@@ -191,7 +191,7 @@ module _ (g : ℕ) (c : List ℕ) (S : List Op) (d : Drafted) (plan : Plan) (pla
       let last : with_puts g d.expires seq_in [] cut.kept ≡ Some plan.ops = ap (λ xs. with_puts g d.expires seq_in xs cut.kept) (sym none) ∙ cut.is_numbered in
       ap (puts e) (sym (same_Some cut.kept plan.ops last)) ∙ kept-puts bare e
 
-  pub plan-fresh : IsFlush g c S → IsApart d → AreFresh S plan.ops
+  pub plan-fresh : IsFlush g c S → PutsApart d → AreFresh S plan.ops
   plan-fresh flush apart = elim apart.alone [
     | inl none ↦ puts-fresh g d.expires seq_in S d.puts cut.kept plan.ops apart.one_each
         (all-given (IsFree g d.expires seq_in (S ++ cut.kept)) (λ p n next. puts-other p.client S cut.kept (n, g) (kept-puts none p.client) ∙ unput p.client g S n n next (omega arith)) d.puts)

@@ -11,14 +11,14 @@ use Rattle.sn_session.specs.declared.change.SessionOp.{SessionOp}
 use Rattle.sn_session.specs.declared.change.SessionOp.TheVariants.{Register}
 use Rattle.sn_tables.specs.Tables.{IsTable, is_table_full, by_order}
 use Rattle.sn_tables.specs.Topics.{topic_cmp, topic_of, topic_named, with_topic, topic_has_no_room, free_id, least_unused}
-use Rattle.sn_session.specs.Session.{applied, changed, is_full}
+use Rattle.sn_session.specs.Session.{applied, session_changed, is_full}
 use Rattle.sn_tables.proofs.Ascending.{Ascends, from_test}
 use Rattle.sn_tables.proofs.TopicPlaces.{topic_total}
 use Rattle.sn_subscribe.specs.Registration.{entry_or_free, id_for}
-use Rattle.row_laws.specs.RequestLaws.{StandsFor}
+use Rattle.row_laws.specs.RequestLaws.{IsIdOf}
 
 -- an operation that finds room
-pub fits : (s : Session) (change : SessionOp) → is_full s change ≡ false → applied s change ≡ changed s change
+pub fits : (s : Session) (change : SessionOp) → is_full s change ≡ false → applied s change ≡ session_changed s change
 fits s change h = rw h refl
 
 same_id : (n : ℕ) → (n == n) ≡ true
@@ -85,7 +85,7 @@ room_free true absent h = cc
 room_free false absent h = refl
 
 -- of an entry
-of_known : (s : Session) (name : List ℕ) (entry : TopicEntry) → IsEntry name s.topics entry → (known : Bool) → entry.known ≡ known → StandsFor name s (record { id = entry.id; change = if known then None else Some (Register entry.id name true) })
+of_known : (s : Session) (name : List ℕ) (entry : TopicEntry) → IsEntry name s.topics entry → (known : Bool) → entry.known ≡ known → IsIdOf name s (record { id = entry.id; change = if known then None else Some (Register entry.id name true) })
 of_known s name entry is true known = is.there ∙ ap Some (alike entry name is.named known)
   where
     alike : (e : TopicEntry) (name : List ℕ) → e.name ≡ name → e.known ≡ true → e ≡ record { id = e.id; name = name; known = true }
@@ -94,14 +94,14 @@ of_known s name entry is false known =
     registers s entry.id name (room_there (is_table_full s.topics) (is_none (topic_of entry.id s.topics)) (ap is_none is.there))
 
 -- of a free id
-of_free : (s : Session) (name : List ℕ) (full : Bool) → is_table_full s.topics ≡ full → IfSome (entry_or_free name None (if full then None else Some (least_unused 1 s.topics))) (StandsFor name s)
+of_free : (s : Session) (name : List ℕ) (full : Bool) → is_table_full s.topics ≡ full → IfSome (entry_or_free name None (if full then None else Some (least_unused 1 s.topics))) (IsIdOf name s)
 of_free s name true h = tt
 of_free s name false h =
     registers s (least_unused 1 s.topics) name (room_free (is_table_full s.topics) (is_none (topic_of (least_unused 1 s.topics) s.topics)) h)
 
-of_entry : (s : Session) (name : List ℕ) (o : Option TopicEntry) → IfSome o (IsEntry name s.topics) → IfSome (entry_or_free name o (free_id s.topics)) (StandsFor name s)
+of_entry : (s : Session) (name : List ℕ) (o : Option TopicEntry) → IfSome o (IsEntry name s.topics) → IfSome (entry_or_free name o (free_id s.topics)) (IsIdOf name s)
 of_entry s name None h = of_free s name (is_table_full s.topics) refl
 of_entry s name (Some entry) h = of_known s name entry h entry.known refl
 
-pub given : (s : Session) (name : List ℕ) → IsTable topic_cmp s.topics → IfSome (id_for s name) (StandsFor name s)
+pub given : (s : Session) (name : List ℕ) → IsTable topic_cmp s.topics → IfSome (id_for s name) (IsIdOf name s)
 given s name table = of_entry s name (topic_named name s.topics) (entry_named name s.topics (from_test topic_cmp topic_total s.topics table.0))

@@ -9,7 +9,7 @@ use Rattle.sn_frame.specs.declared.frame.Frame.{Frame}
 use Rattle.sn_frame.specs.declared.frame.Frame.TheVariants as frames
 use Rattle.sn_frame.specs.declared.frame.Will.{Will}
 use Rattle.sn_frame.specs.FlagBits.{qos_of, kind_of}
-use Rattle.sn_tables.specs.Subscriptions.{qos_of as subscribed_at, filter_has_no_room}
+use Rattle.sn_tables.specs.Subscriptions.{filter_qos, filter_has_no_room}
 use Rattle.sn_local.specs.declared.config.Addr.{Addr}
 use Rattle.sn_local.specs.Seen.{Seen}
 use Rattle.sn_plan.specs.declared.asking.Asked.{Asked}
@@ -50,7 +50,7 @@ module _ (seen : Seen) (waiting : ℕ) (a : Addr) (s : Session) (bits msg_id : �
   of_subscribed : (filter : List ℕ) (qos : ℕ) (named : Option NamedId) → ChangesSessionOnly (subscribed seen waiting a s bits msg_id filter qos named)
   of_subscribed filter qos None = of_refused 1
   of_subscribed filter qos (Some named) =
-      let granted = of_sent a (suback bits named.id msg_id 0) _ (of_changed_if (subscribe_change filter qos (subscribed_at filter s.subscriptions)) _ (of_changed_if named.change nothing of_nothing)) in
+      let granted = of_sent a (suback bits named.id msg_id 0) _ (of_changed_if (subscribe_change filter qos (filter_qos filter s.subscriptions)) _ (of_changed_if named.change nothing of_nothing)) in
       record { acks = granted.leaves.acks; puts = granted.leaves.puts; retain = granted.leaves.retain; local = granted.leaves.local }
 
   of_either : (test : Bool) (d e : Drafted) → ChangesSessionOnly d → ChangesSessionOnly e → ChangesSessionOnly (if test then d else e)

@@ -12,7 +12,7 @@ use Rattle.sn_plan.specs.declared.plan.Plan.{Plan}
 use Rattle.sn_plan.specs.Drafts.{Drafted}
 use Rattle.sn_local.specs.Seen.{Seen, seen_of}
 use Rattle.sn_plan.specs.Plans.{plan_of}
-use Rattle.sn_plan.specs.Own.{AddsNone}
+use Rattle.sn_plan.specs.Own.{AddsNothingOwn}
 use Rattle.sn_plan.specs.Flush.{stamp_of, IsFlush}
 use Rattle.row_laws.proofs.Names.{plan-apart}
 use Rattle.row_laws.proofs.Carried.{written-fresh}
@@ -26,7 +26,7 @@ second a (Some y) x e h = ap (λ o. or_else o (Some y)) h ∙ e
 first : {X : Type 0} (a b : Option X) (x : X) → a ≡ Some x → or_else a b ≡ Some x
 first a b x e = ap (λ o. or_else o b) e
 
-pub known-own : (g : ℕ) (c : List ℕ) (S : List Op) (d : Drafted) (plan : Plan) → IsFlush g c S → plan_of g c (seen_of S) d ≡ Some plan → (delta : List Op) → Same delta plan.ops → (e : List ℕ) → AddsNone g e (S ++ delta) delta
+pub known-own : (g : ℕ) (c : List ℕ) (S : List Op) (d : Drafted) (plan : Plan) → IsFlush g c S → plan_of g c (seen_of S) d ≡ Some plan → (delta : List Op) → Same delta plan.ops → (e : List ℕ) → AddsNothingOwn g e (S ++ delta) delta
 known-own g c S d plan flush planned delta same e epoch counter change is =
     let p = parts g c S d plan planned in
     let name : Stamp × ℕ = (stamp_of epoch g, counter) in
@@ -34,11 +34,11 @@ known-own g c S d plan flush planned delta same e epoch counter change is =
     let absent : IfSome (operation_at e delta name) (λ _. operation_at e S name ≡ None) = subst (λ o. IfSome o (λ _. operation_at e S name ≡ None)) (sym there) (fresh-absent S p.w.ops (written-fresh g c S flush d.changes p.w p.is_written) e name) in
     operation_at_both e S delta name ∙ second (operation_at e S name) (operation_at e delta name) change is absent
 
-pub known-others : (g : ℕ) (c : List ℕ) (seen : Seen) (d : Drafted) (plan : Plan) → plan_of g c seen d ≡ Some plan → (delta : List Op) → Same delta plan.ops → (other : ℕ) → ¬ (other ≡ g) → (e : List ℕ) (S : List Op) → AddsNone other e S delta
+pub known-others : (g : ℕ) (c : List ℕ) (seen : Seen) (d : Drafted) (plan : Plan) → plan_of g c seen d ≡ Some plan → (delta : List Op) → Same delta plan.ops → (other : ℕ) → ¬ (other ≡ g) → (e : List ℕ) (S : List Op) → AddsNothingOwn other e S delta
 known-others g c seen d plan planned delta same other h e S epoch counter change is =
     absurd (none-some change (sym (same.operations_same e (stamp_of epoch other, counter) ∙ plan-apart g c seen d plan planned other e h epoch counter) ∙ is))
 
-pub known-stays : (g : ℕ) (c : List ℕ) (S D more : List Op) → AddsNone g c S D → AddsNone g c (S ++ more) D
+pub known-stays : (g : ℕ) (c : List ℕ) (S D more : List Op) → AddsNothingOwn g c S D → AddsNothingOwn g c (S ++ more) D
 known-stays g c S D more known epoch counter change is =
     operation_at_both c S more (stamp_of epoch g, counter) ∙ first (operation_at c S (stamp_of epoch g, counter)) (operation_at c more (stamp_of epoch g, counter)) change (known epoch counter change is)
 

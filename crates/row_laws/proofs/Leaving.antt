@@ -15,7 +15,7 @@ use Rattle.rep_model.proofs.Thin.{pending_at-reads}
 use Rattle.rep_model.proofs.Joins.{within-left, pending-leaves}
 use Rattle.sn_plan.specs.declared.plan.Plan.{Plan}
 use Rattle.sn_plan.specs.Drafts.{Drafted}
-use Rattle.sn_plan.specs.Numbering.{Written, with_puts, with_handed, with_retain, written, start_of, ack_of}
+use Rattle.sn_plan.specs.Numbering.{Written, with_puts, with_handed, with_retain, changes_written, start_of, ack_of}
 use Rattle.sn_local.specs.Seen.{seen_of}
 use Rattle.sn_plan.specs.Plans.{plan_of}
 use Rattle.sn_plan.proofs.Lists.{all-weaken}
@@ -111,7 +111,7 @@ module _ (g : ℕ) (c : List ℕ) (S : List Op) (d : Drafted) (plan : Plan) (pla
   plan-quiet changes acks handed retain puts =
       let start : Written = start_of g (view c S) (next_epoch c S) in
       let before : List Op = cut.w.ops ++ map (ack_of c) d.acks in
-      let first : written c g [] start ≡ Some cut.w = ap (λ xs. written c g xs start) (sym changes) ∙ cut.is_written in
+      let first : changes_written c g [] start ≡ Some cut.w = ap (λ xs. changes_written c g xs start) (sym changes) ∙ cut.is_written in
       let ops : cut.w.ops ≡ [] = ap (λ (w : Written). w.ops) (sym (same_Some start cut.w first)) in
       let given : with_handed g d.expires c (seq_of_step c) [] before ≡ Some cut.handed = ap (λ xs. with_handed g d.expires c (seq_of_step c) xs before) (sym handed) ∙ cut.is_handed in
       let kept : with_retain g clock_of_step None cut.handed ≡ Some cut.kept = ap (λ posted. with_retain g clock_of_step posted cut.handed) (sym retain) ∙ cut.is_kept in

@@ -14,7 +14,7 @@ use Rattle.sn_plan.specs.declared.draft.NewPut.{NewPut}
 use Rattle.sn_plan.specs.declared.draft.Posted.{Posted}
 use Rattle.sn_plan.specs.declared.plan.Plan.{Plan}
 use Rattle.sn_plan.specs.Drafts.{Drafted}
-use Rattle.sn_plan.specs.Numbering.{Written, another, taken_at, taken, counted, write, written, start_of, put_at_seq, with_puts, handed_at_seq, with_handed, retain_at_clock, with_retain, numbered, ack_of, plan_with, rest_of, planned}
+use Rattle.sn_plan.specs.Numbering.{Written, another, taken_at, taken, counted, write, changes_written, start_of, put_at_seq, with_puts, handed_at_seq, with_handed, retain_at_clock, with_retain, numbered, ack_of, plan_with, rest_of, planned}
 use Rattle.sn_plan.proofs.Lists.{and_then-some, map-some, all-append}
 
 -- P holds before a change, Q after it, whether it is written under the next counter or is a Take under the next epoch
@@ -42,15 +42,15 @@ module _ (c : List ℕ) (g : ℕ) (P Q : Written → Type 0)
   write-gives (Take session) w x p e = taken-gives session w x p e
   write-gives change w x p e = counted-gives change w x p e
 
-  pub written-keeps : (changes : List SessionOp) (w x : Written) → Q w → written c g changes w ≡ Some x → Q x
+  pub written-keeps : (changes : List SessionOp) (w x : Written) → Q w → changes_written c g changes w ≡ Some x → Q x
   written-keeps [] w x q e = subst Q (same_Some w x e) q
   written-keeps (change ∷ rest) w x q e =
-      let m = and_then-some (written c g rest) (write c g change w) x e in
+      let m = and_then-some (changes_written c g rest) (write c g change w) x e in
       written-keeps rest m.0 x (write-gives change w m.0 (weaken w q) m.1) m.2
 
-  pub written-gives : (change : SessionOp) (rest : List SessionOp) (w x : Written) → P w → written c g (change ∷ rest) w ≡ Some x → Q x
+  pub written-gives : (change : SessionOp) (rest : List SessionOp) (w x : Written) → P w → changes_written c g (change ∷ rest) w ≡ Some x → Q x
   written-gives change rest w x p e =
-      let m = and_then-some (written c g rest) (write c g change w) x e in
+      let m = and_then-some (changes_written c g rest) (write c g change w) x e in
       written-keeps rest m.0 x (write-gives change w m.0 p m.1) m.2
 
 -- a message of the gateway's, under a sequence number of its client from the next one on; what the gateway retained, under the next clock of its topic
@@ -147,7 +147,7 @@ pub record Parts (g : ℕ) (c : List ℕ) (v : ClientView) (epoch : Option ℕ) 
   pub w : Written
   pub handed : List Op
   pub kept : List Op
-  pub is_written : written c g d.changes (start_of g v epoch) ≡ Some w
+  pub is_written : changes_written c g d.changes (start_of g v epoch) ≡ Some w
   pub is_handed : with_handed g d.expires c (seq c) d.handed (w.ops ++ map (ack_of c) d.acks) ≡ Some handed
   pub is_kept : with_retain g clock d.retain handed ≡ Some kept
   pub is_numbered : with_puts g d.expires seq d.puts kept ≡ Some ops
@@ -156,7 +156,7 @@ module _ (g : ℕ) (c : List ℕ) (v : ClientView) (epoch : Option ℕ) (seq clo
   pub planned-parts : (plan : Plan) → planned g c v epoch seq clock d ≡ Some plan → Parts g c v epoch seq clock d plan.ops
   unfolding planned
   planned-parts plan e =
-      let m = and_then-some (rest_of g c seq clock d) (written c g d.changes (start_of g v epoch)) plan e in
+      let m = and_then-some (rest_of g c seq clock d) (changes_written c g d.changes (start_of g v epoch)) plan e in
       let acks : List Op = m.0.ops ++ map (ack_of c) d.acks in
       let n = map-some (plan_with d) (numbered g c seq clock d acks) plan m.2 in
       let k = and_then-some (with_puts g d.expires seq d.puts) (option_and_then (with_retain g clock d.retain) (with_handed g d.expires c (seq c) d.handed acks)) n.0 n.1 in

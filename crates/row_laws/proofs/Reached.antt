@@ -10,7 +10,7 @@ use Rattle.rep_op.specs.declared.op.Stamp.{Stamp}
 use Rattle.rep_op.specs.declared.op.Op.{Op}
 use Rattle.rep_op.specs.Orders.{stamp_cmp}
 use Rattle.rep_op.specs.Sets.{operation_at}
-use Rattle.rep_model.specs.Views.{visible, gapless, history_at, history, after_change, session_of}
+use Rattle.rep_model.specs.Views.{visible, gapless, history_at, history, after_change, session_made}
 use Rattle.rep_model.specs.Fresh.{one_more, greatest_epoch, next_epoch}
 use Rattle.rep_model.proofs.Readers.{stamp_total, stamp_exact, takes, has_take}
 use Rattle.rep_model.proofs.Fresh.{epoch-reaches}
@@ -33,7 +33,7 @@ pub record At (g : ℕ) (c : List ℕ) (T : List Op) (epoch counter : ℕ) (next
   pub seen : visible c T ≡ Some (stamp_of epoch g)
   pub begun : 1 ≤ counter
   pub prefix : length (history c T) ≡ counter
-  pub made : session_of (history c T) ≡ Some session
+  pub made : session_made (history c T) ≡ Some session
   pub behind : (k : ℕ) → counter ≤ k → operation_at c T (stamp_of epoch g, k) ≡ None
 
 pub history-own : (c : List ℕ) (T : List Op) (s : Stamp) → visible c T ≡ Some s → history c T ≡ gapless (λ k. operation_at c T (s, k)) 256 0
@@ -80,7 +80,7 @@ module _ (g : ℕ) (c : List ℕ) (T : List Op) (epoch counter : ℕ) (next : Op
     seen = seen-more;
     begun = omega arith;
     prefix = ap length history-more ∙ longer-by-one (history c T) ∙ ap (λ n. n + 1) at.prefix;
-    made = ap session_of history-more ∙ fold_one_more after_change None (history c T) change ∙ ap (λ s. after_change s change) at.made;
+    made = ap session_made history-more ∙ fold_one_more after_change None (history c T) change ∙ ap (λ s. after_change s change) at.made;
     behind = λ k le. others k (λ e. omega (arith, e, le)) ∙ at.behind k (omega (arith, le));
   }
     where
@@ -130,6 +130,6 @@ module _ (g : ℕ) (c : List ℕ) (T : List Op) (e : ℕ) (session : Session) (i
     seen = seen-new;
     begun = omega arith;
     prefix = ap length history-new;
-    made = ap session_of history-new;
+    made = ap session_made history-new;
     behind = later;
   }

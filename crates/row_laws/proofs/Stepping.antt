@@ -11,8 +11,8 @@ use Rattle.rep_model.proofs.Thin.{thin-same, pending_at-thin}
 use Rattle.rep_model.proofs.Joins.{same_sym}
 use Rattle.sn_plan.specs.declared.plan.Plan.{Plan}
 use Rattle.sn_local.specs.Seen.{seen_of}
-use Rattle.sn_plan.specs.Own.{AddsNone, IsOfDraft}
-use Rattle.sn_plan.specs.Flush.{IsFlush, AreFlush}
+use Rattle.sn_plan.specs.Own.{AddsNothingOwn, IsOfDraft}
+use Rattle.sn_plan.specs.Flush.{IsFlush, HaveNoGap}
 use Rattle.row_laws.proofs.Freshness.{plan-fresh}
 use Rattle.sn_plan.proofs.Standing.{plan-fits, new-operation, new-put, new-retain}
 use Rattle.row_laws.proofs.Leaving.{plan-leaves}
@@ -20,10 +20,10 @@ use Rattle.row_laws.proofs.Known.{known-own, known-others, same-behind}
 use Rattle.row_laws.proofs.Flushness.{flush-step, flush-same}
 
 module _ (g : ℕ) (S : List Op) (plan : Plan) (p : IsOfDraft g (seen_of S) plan) (delta : List Op) (same : Same delta plan.ops) where
-  pub step-fits : AreFlush g S → AllAgree S delta × AllAgree (keep S) delta
+  pub step-fits : HaveNoGap g S → AllAgree S delta × AllAgree (keep S) delta
   step-fits flush = plan-fits S plan.ops (plan-fresh g p.client S p.draft plan p.is (flush p.client) p.apart) delta same
 
-  pub step-flush : AreFlush g S → (c : List ℕ) → IsFlush g c (S ++ delta)
+  pub step-flush : HaveNoGap g S → (c : List ℕ) → IsFlush g c (S ++ delta)
   step-flush flush c = flush-same g c (S ++ plan.ops) (S ++ delta) (same_sym (same-behind S plan.ops delta same)) (flush-step g p.client S p.draft plan p.is (flush p.client) c (flush c))
 
   pub step-leaves : (c : List ℕ) (name : ℕ × ℕ) (put : Put) → pending_at c S name ≡ Some put → (pending_at c (S ++ delta) name ≡ Some put) ⊎ (is_acknowledged c delta name ≡ true)
@@ -34,18 +34,18 @@ module _ (g : ℕ) (S : List Op) (plan : Plan) (p : IsOfDraft g (seen_of S) plan
       ]
 
   -- no session operation in it is new to the gateway under its own stamps, nor to any other gateway under that one's
-  pub step-known : AreFlush g S → (e : List ℕ) → AddsNone g e (S ++ delta) delta
+  pub step-known : HaveNoGap g S → (e : List ℕ) → AddsNothingOwn g e (S ++ delta) delta
   step-known flush e = known-own g p.client S p.draft plan (flush p.client) p.is delta same e
 
-  pub step-foreign : (other : ℕ) → ¬ (other ≡ g) → (e : List ℕ) (T : List Op) → AddsNone other e T delta
+  pub step-foreign : (other : ℕ) → ¬ (other ≡ g) → (e : List ℕ) (T : List Op) → AddsNothingOwn other e T delta
   step-foreign other h e T = known-others g p.client (seen_of S) p.draft plan p.is delta same other h e T
 
   -- what stands in it did not stand before
-  pub step-new_operation : AreFlush g S → (c : List ℕ) (name : Stamp × ℕ) → is_some (operation_at c delta name) ≡ true → operation_at c S name ≡ None
+  pub step-new_operation : HaveNoGap g S → (c : List ℕ) (name : Stamp × ℕ) → is_some (operation_at c delta name) ≡ true → operation_at c S name ≡ None
   step-new_operation flush = new-operation S plan.ops (plan-fresh g p.client S p.draft plan p.is (flush p.client) p.apart) delta same
 
-  pub step-new_put : AreFlush g S → (c : List ℕ) (name : ℕ × ℕ) → is_some (put_at c delta name) ≡ true → put_at c S name ≡ None
+  pub step-new_put : HaveNoGap g S → (c : List ℕ) (name : ℕ × ℕ) → is_some (put_at c delta name) ≡ true → put_at c S name ≡ None
   step-new_put flush = new-put S plan.ops (plan-fresh g p.client S p.draft plan p.is (flush p.client) p.apart) delta same
 
-  pub step-new_retain : AreFlush g S → (t : List ℕ) (name : ℕ × ℕ) → is_some (retain_at t delta name) ≡ true → retain_at t S name ≡ None
+  pub step-new_retain : HaveNoGap g S → (t : List ℕ) (name : ℕ × ℕ) → is_some (retain_at t delta name) ≡ true → retain_at t S name ≡ None
   step-new_retain flush = new-retain S plan.ops (plan-fresh g p.client S p.draft plan p.is (flush p.client) p.apart) delta same

@@ -15,8 +15,8 @@ use Rattle.sn_session.specs.declared.change.SessionOp.{SessionOp}
 use Rattle.sn_session.specs.declared.change.SessionOp.TheVariants.{Register, Subscribe, Unsubscribe}
 use Rattle.sn_tables.specs.Tables.{by_order}
 use Rattle.sn_tables.specs.Topics.{topic_named, free_id, topic_has_no_room}
-use Rattle.sn_tables.specs.Subscriptions.{subscription_cmp, subscription_of, qos_of as subscribed_at, with_subscription, without_filter, filter_has_no_room}
-use Rattle.sn_session.specs.Session.{applied, changed}
+use Rattle.sn_tables.specs.Subscriptions.{subscription_cmp, subscription_of, filter_qos, with_subscription, without_filter, filter_has_no_room}
+use Rattle.sn_session.specs.Session.{applied, session_changed}
 use Rattle.sn_frame.specs.declared.flags.TopicIdType.{TopicIdType}
 use Rattle.sn_frame.specs.declared.flags.TopicIdType.TheVariants as kinds
 use Rattle.sn_frame.specs.FlagBits.{qos_of, kind_of}
@@ -72,7 +72,7 @@ either_same true s t h = refl
 either_same false s t h = h
 
 registers : (s : Session) (id : ℕ) (name : List ℕ) → (applied s (Register id name true)).subscriptions ≡ s.subscriptions
-registers s id name = either_same (topic_has_no_room id s.topics) s (changed s (Register id name true)) refl
+registers s id name = either_same (topic_has_no_room id s.topics) s (session_changed s (Register id name true)) refl
 
 of_known : (s : Session) (name : List ℕ) (id : ℕ) (known : Bool) → LeavesSubscriptions s (record { id = id; change = if known then None else Some (Register id name true) })
 of_known s name id true = refl
@@ -99,12 +99,12 @@ sets s f qos room =
     subst (λ (t : Session). IsSubscribed f qos t) (sym (fits s (Subscribe f qos) room))
     (ap (option_map (λ (e : Subscription). e.qos)) (set_found (record { filter = f; qos = qos }) s.subscriptions))
 
-stays : (s : Session) (f : List ℕ) (before qos : ℕ) → filter_has_no_room f s.subscriptions ≡ false → subscribed_at f s.subscriptions ≡ Some before → (same : Bool) → (before == qos) ≡ same
+stays : (s : Session) (f : List ℕ) (before qos : ℕ) → filter_has_no_room f s.subscriptions ≡ false → filter_qos f s.subscriptions ≡ Some before → (same : Bool) → (before == qos) ≡ same
     → IsSubscribed f qos (session_after s (changed_if (if same then None else Some (Subscribe f qos)) nothing))
 stays s f before qos room was true is = let e : before ≡ qos = grind (arith, nat_tests) in was ∙ ap Some e
 stays s f before qos room was false is = sets s f qos room
 
-asks : (s : Session) (f : List ℕ) (qos : ℕ) → filter_has_no_room f s.subscriptions ≡ false → (before : Option ℕ) → subscribed_at f s.subscriptions ≡ before
+asks : (s : Session) (f : List ℕ) (qos : ℕ) → filter_has_no_room f s.subscriptions ≡ false → (before : Option ℕ) → filter_qos f s.subscriptions ≡ before
     → IsSubscribed f qos (session_after s (changed_if (subscribe_change f qos before) nothing))
 asks s f qos room None was = sets s f qos room
 asks s f qos room (Some before) was = stays s f before qos room was (before == qos) refl
@@ -120,8 +120,8 @@ module _ (seen : Seen) (waiting : ℕ) (a : Addr) (s : Session) (bits msg_id : �
   granted : filter_has_no_room f s.subscriptions ≡ false → LeavesSubscriptions s named → IsSubscribed f qos (session_after s (subscribed seen waiting a s bits msg_id f qos (Some named)))
   granted room same =
       let named_session : Session = session_after s (changed_if named.change nothing) in
-      subst (λ (t : Session). IsSubscribed f qos t) (sym (one_by_one s named.change (subscribe_change f qos (subscribed_at f s.subscriptions))))
-      (asks named_session f qos (subst (λ (xs : List Subscription). filter_has_no_room f xs ≡ false) (sym same) room) (subscribed_at f s.subscriptions) (ap (subscribed_at f) same))
+      subst (λ (t : Session). IsSubscribed f qos t) (sym (one_by_one s named.change (subscribe_change f qos (filter_qos f s.subscriptions))))
+      (asks named_session f qos (subst (λ (xs : List Subscription). filter_has_no_room f xs ≡ false) (sym same) room) (filter_qos f s.subscriptions) (ap (filter_qos f) same))
 
 pub lasts : (p : Entries) (seen : Seen) (waiting : ℕ) (a : Addr) (s : Session) (bits msg_id : ℕ) (field f : List ℕ) (qos : ℕ) (named : NamedId) → qos_asked (qos_of bits) ≡ Some qos → topics_asked p (kind_of bits) field ≡ Topics f
     → filter_has_no_room f s.subscriptions ≡ false → id_asked s (kind_of bits) field f ≡ Some named → IsSubscribed f qos (session_after s (subscribe p seen waiting a s bits msg_id field))
@@ -133,10 +133,10 @@ lasts p seen waiting a s bits msg_id field f qos named quality topics room id =
     (subst (λ (o : Option NamedId). IsSubscribed f qos (session_after s (subscribed seen waiting a s bits msg_id f qos o))) (sym id)
     (granted seen waiting a s bits msg_id f qos named room same))))
 
-ended : (s : Session) (f : List ℕ) (before : Option ℕ) → subscribed_at f s.subscriptions ≡ before → IsUnsubscribed f (session_after s (changed_if (if is_some before then Some (Unsubscribe f) else None) nothing))
+ended : (s : Session) (f : List ℕ) (before : Option ℕ) → filter_qos f s.subscriptions ≡ before → IsUnsubscribed f (session_after s (changed_if (if is_some before then Some (Unsubscribe f) else None) nothing))
 ended s f None was = was
 ended s f (Some before) was = ap (option_map (λ (e : Subscription). e.qos)) (none_left f s.subscriptions)
 
 pub ends : (p : Entries) (a : Addr) (s : Session) (bits msg_id : ℕ) (field f : List ℕ) → topics_asked p (kind_of bits) field ≡ Topics f → IsUnsubscribed f (session_after s (unsubscribe p a s bits msg_id field))
 ends p a s bits msg_id field f topics =
-    subst (λ (t : Asked). IsUnsubscribed f (session_after s (changed_if (unsubscribe_asked s t) nothing))) (sym topics) (ended s f (subscribed_at f s.subscriptions) refl)
+    subst (λ (t : Asked). IsUnsubscribed f (session_after s (changed_if (unsubscribe_asked s t) nothing))) (sym topics) (ended s f (filter_qos f s.subscriptions) refl)

@@ -3,7 +3,7 @@
 use Rattle.std.specs.Prelude.{◌≡◌, ℕ, true, List, [], Some, None}
 use Rattle.sn_session.specs.declared.session.Session.{Session}
 use Rattle.sn_tables.specs.Topics.{topic_of}
-use Rattle.sn_tables.specs.Subscriptions.{qos_of}
+use Rattle.sn_tables.specs.Subscriptions.{filter_qos}
 use Rattle.sn_subscribe.specs.declared.registration.NamedId.{NamedId}
 use Rattle.sn_plan.specs.Drafts.{Drafted, nothing, changed_if, session_after}
 
@@ -20,15 +20,15 @@ pub record HandsNothing (d : Drafted) : Type 0 where
   pub handed : d.handed ≡ []
 
 -- the id stands for the name from then on, and the client knows it
-abbrev pub StandsFor : List ℕ → Session → NamedId → Type 0
-StandsFor name s named =
+abbrev pub IsIdOf : List ℕ → Session → NamedId → Type 0
+IsIdOf name s named =
     topic_of named.id (session_after s (changed_if named.change nothing)).topics
     ≡ Some (record { id = named.id; name = name; known = true })
 
 -- the session has the filter at that quality of service
 abbrev pub IsSubscribed : List ℕ → ℕ → Session → Type 0
-IsSubscribed filter qos s = qos_of filter s.subscriptions ≡ Some qos
+IsSubscribed filter qos s = filter_qos filter s.subscriptions ≡ Some qos
 
 -- the session does not have the filter
 abbrev pub IsUnsubscribed : List ℕ → Session → Type 0
-IsUnsubscribed filter s = qos_of filter s.subscriptions ≡ None
+IsUnsubscribed filter s = filter_qos filter s.subscriptions ≡ None

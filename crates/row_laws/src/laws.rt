@@ -27,11 +27,11 @@ ghost use Rattle.sn_flow.specs.Connection.{connect, disconnect};
 ghost use Rattle.sn_flow.specs.Wills.{will_topic, will_msg, will_topic_update, will_msg_update};
 ghost use Rattle.sn_subscribe.specs.TopicRows.{register, subscribe, unsubscribe};
 ghost use Rattle.sn_plan.specs.Others.{other};
-ghost use Rattle.sn_plan.specs.Numbering.{Written, start_of, written, handed_to, kept_as};
+ghost use Rattle.sn_plan.specs.Numbering.{Written, start_of, changes_written, handed_to, kept_as};
 ghost use Rattle.sn_local.specs.Seen.{Seen, seen_of};
 ghost use Rattle.sn_plan.specs.Plans.{plan_of};
-ghost use Rattle.sn_plan.specs.Own.{IsOwn, HasNoneOf, AddsNone, AreFresh, IsApart, HasMoment, Waits, messages, handed_in, retained_in, IsOfDraft, PublishesNothing, MakesNoMessage};
-ghost use Rattle.sn_plan.specs.Flush.{IsFlush, AreFlush, Shows, session_with};
+ghost use Rattle.sn_plan.specs.Own.{IsOwnWrite, HasNoneOf, AddsNothingOwn, AreFresh, PutsApart, HasMoment, WaitsOrIsAcked, new_messages, handed_in, retained_in, IsOfDraft, PublishesNothing, MakesNoMessage};
+ghost use Rattle.sn_plan.specs.Flush.{IsFlush, HaveNoGap, Shows, session_with};
 
 /// A gateway writes under names of its own: the session operations of a plan are of the client that
 /// the plan is for and under stamps with the gateway's number, the messages have the gateway as
@@ -39,7 +39,7 @@ ghost use Rattle.sn_plan.specs.Flush.{IsFlush, AreFlush, Shows, session_with};
 /// under a stamp of another.
 pub fn own_names()
     ensures own { (g : ℕ) (c : List ℕ) (seen : Seen) (d : Drafted) (plan : Plan)
-        → plan_of g c seen d ≡ Some plan → AllByRecursion (IsOwn g c) plan.ops }
+        → plan_of g c seen d ≡ Some plan → AllByRecursion (IsOwnWrite g c) plan.ops }
     ensures apart { (g : ℕ) (c : List ℕ) (seen : Seen) (d : Drafted) (plan : Plan)
         → plan_of g c seen d ≡ Some plan → (other : ℕ) (e : List ℕ) → ¬ (other ≡ g)
         → HasNoneOf other e plan.ops }
@@ -68,7 +68,7 @@ pub fn only_acknowledged()
 pub fn reads_back()
     ensures written { (g : ℕ) (c : List ℕ) (S : List Op) (d : Drafted) (plan : Plan) → IsFlush g c S
         → plan_of g c (seen_of S) d ≡ Some plan → ¬ (d.changes ≡ []) → (w : Written)
-        × (written c g d.changes (start_of g (view c S) (next_epoch c S)) ≡ Some w)
+        × (changes_written c g d.changes (start_of g (view c S) (next_epoch c S)) ≡ Some w)
         × Shows g w (view c (S ++ plan.ops)) }
     ensures session { (g : ℕ) (c : List ℕ) (S : List Op) (d : Drafted) (plan : Plan) → IsFlush g c S
         → plan_of g c (seen_of S) d ≡ Some plan
@@ -89,12 +89,12 @@ pub fn reads_back()
 /// the set stays consistent, and a gateway never refuses what it made itself for a conflict.
 pub fn fresh_names()
     ensures fresh { (g : ℕ) (c : List ℕ) (S : List Op) (d : Drafted) (plan : Plan) → IsFlush g c S
-        → IsApart d → plan_of g c (seen_of S) d ≡ Some plan → AreFresh S plan.ops }
+        → PutsApart d → plan_of g c (seen_of S) d ≡ Some plan → AreFresh S plan.ops }
     ensures fits { (g : ℕ) (c : List ℕ) (S : List Op) (d : Drafted) (plan : Plan) → IsFlush g c S
-        → IsApart d → plan_of g c (seen_of S) d ≡ Some plan → (delta : List Op)
+        → PutsApart d → plan_of g c (seen_of S) d ≡ Some plan → (delta : List Op)
         → Same delta plan.ops → AllAgree S delta × AllAgree (keep S) delta }
     ensures consistent { (g : ℕ) (c : List ℕ) (S : List Op) (d : Drafted) (plan : Plan)
-        → IsFlush g c S → IsApart d → plan_of g c (seen_of S) d ≡ Some plan → IsConsistent S
+        → IsFlush g c S → PutsApart d → plan_of g c (seen_of S) d ≡ Some plan → IsConsistent S
         → IsConsistent (S ++ plan.ops) }
 {}
 
@@ -104,7 +104,7 @@ pub fn fresh_names()
 /// retains is written, and then it is what is retained of its topic.
 pub fn messages_wait()
     ensures all { (g : ℕ) (c : List ℕ) (seen : Seen) (d : Drafted) (plan : Plan)
-        → plan_of g c seen d ≡ Some plan → messages plan.ops ≡ d.puts }
+        → plan_of g c seen d ≡ Some plan → new_messages plan.ops ≡ d.puts }
     ensures handed { (g : ℕ) (c : List ℕ) (seen : Seen) (d : Drafted) (plan : Plan)
         → plan_of g c seen d ≡ Some plan → handed_in plan.ops ≡ map (handed_to c) d.handed }
     ensures moments { (g : ℕ) (c : List ℕ) (seen : Seen) (d : Drafted) (plan : Plan)
@@ -119,8 +119,8 @@ pub fn messages_wait()
         → plan_of g c (seen_of S) d ≡ Some plan → IfSome d.retain (λ m. ¬ (m.topic ≡ t))
         → retained t (S ++ plan.ops) ≡ retained t S }
     ensures waiting { (g : ℕ) (c : List ℕ) (S : List Op) (d : Drafted) (plan : Plan) → IsFlush g c S
-        → IsApart d → plan_of g c (seen_of S) d ≡ Some plan
-        → AllByRecursion (Waits (S ++ plan.ops) c d.acks) plan.ops }
+        → PutsApart d → plan_of g c (seen_of S) d ≡ Some plan
+        → AllByRecursion (WaitsOrIsAcked (S ++ plan.ops) c d.acks) plan.ops }
 {}
 
 /// A gateway stays flush: it is at the start, after each step of its own, for the client of the
@@ -132,7 +132,7 @@ pub fn stays_flush()
         → plan_of g c (seen_of S) d ≡ Some plan → (e : List ℕ) → IsFlush g e S
         → IsFlush g e (S ++ plan.ops) }
     ensures taken { (g : ℕ) (c : List ℕ) (S D : List Op) → IsFlush g c S
-        → AddsNone g c S D → IsFlush g c (S ++ D) }
+        → AddsNothingOwn g c S D → IsFlush g c (S ++ D) }
     ensures equal { (g : ℕ) (c : List ℕ) (A B : List Op) → Same A B → IsFlush g c A
         → IsFlush g c B }
 {}
@@ -144,12 +144,12 @@ pub fn stays_flush()
 pub fn adds_none()
     ensures own { (g : ℕ) (c : List ℕ) (S : List Op) (d : Drafted) (plan : Plan) → IsFlush g c S
         → plan_of g c (seen_of S) d ≡ Some plan → (delta : List Op) → Same delta plan.ops
-        → (e : List ℕ) → AddsNone g e (S ++ delta) delta }
+        → (e : List ℕ) → AddsNothingOwn g e (S ++ delta) delta }
     ensures others { (g : ℕ) (c : List ℕ) (seen : Seen) (d : Drafted) (plan : Plan)
         → plan_of g c seen d ≡ Some plan → (delta : List Op) → Same delta plan.ops → (other : ℕ)
-        → ¬ (other ≡ g) → (e : List ℕ) (S : List Op) → AddsNone other e S delta }
-    ensures stays { (g : ℕ) (c : List ℕ) (S D more : List Op) → AddsNone g c S D
-        → AddsNone g c (S ++ more) D }
+        → ¬ (other ≡ g) → (e : List ℕ) (S : List Op) → AddsNothingOwn other e S delta }
+    ensures stays { (g : ℕ) (c : List ℕ) (S D more : List Op) → AddsNothingOwn g c S D
+        → AddsNothingOwn g c (S ++ more) D }
     ensures together { (S ops delta : List Op) → Same delta ops → Same (S ++ delta) (S ++ ops) }
 {}
 
@@ -186,13 +186,14 @@ pub fn rows_make_no_message()
 /// never refuses for a conflict what it made itself, stays flush when it takes it, and loses a
 /// message by it only where the step itself acknowledges it.
 pub fn every_row()
-    ensures drafted { (g : ℕ) (seen : Seen) (row : Row) (plan : Plan) → IsApart row.draft
+    ensures drafted { (g : ℕ) (seen : Seen) (row : Row) (plan : Plan) → PutsApart row.draft
         → plan_of_row g seen row ≡ Some plan → IsOfDraft g seen plan }
-    ensures fits { (g : ℕ) (S : List Op) (plan : Plan) → AreFlush g S → IsOfDraft g (seen_of S) plan
+    ensures fits { (g : ℕ) (S : List Op) (plan : Plan) → HaveNoGap g S
+        → IsOfDraft g (seen_of S) plan
         → (delta : List Op) → Same delta plan.ops → AllAgree S delta × AllAgree (keep S) delta }
-    ensures flush { (g : ℕ) (S : List Op) (plan : Plan) → AreFlush g S
+    ensures flush { (g : ℕ) (S : List Op) (plan : Plan) → HaveNoGap g S
         → IsOfDraft g (seen_of S) plan → (delta : List Op) → Same delta plan.ops
-        → AreFlush g (S ++ delta) }
+        → HaveNoGap g (S ++ delta) }
     ensures leaves { (g : ℕ) (S : List Op) (plan : Plan) → IsOfDraft g (seen_of S) plan
         → (delta : List Op) → Same delta plan.ops → (c : List ℕ) (name : ℕ × ℕ) (put : Put)
         → pending_at c S name ≡ Some put → (pending_at c (S ++ delta) name ≡ Some put)

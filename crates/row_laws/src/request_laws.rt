@@ -18,7 +18,7 @@ ghost use Rattle.sn_plan.specs.Asking.{qos_asked, topics_asked};
 ghost use Rattle.sn_subscribe.specs.Registration.{id_for, register};
 ghost use Rattle.sn_subscribe.specs.Subscription.{id_asked, subscribe, unsubscribe};
 ghost use Rattle.sn_flow.specs.WillUpdate.{will_topic_update, will_msg_update};
-ghost use Rattle.row_laws.specs.RequestLaws.{ChangesSessionOnly, HandsNothing, StandsFor, IsSubscribed, IsUnsubscribed};
+ghost use Rattle.row_laws.specs.RequestLaws.{ChangesSessionOnly, HandsNothing, IsIdOf, IsSubscribed, IsUnsubscribed};
 
 /// A client that registers a name, subscribes, unsubscribes or updates its will loses no message by
 /// it and gets none that is published: these rows acknowledge nothing, put nothing, retain nothing
@@ -40,7 +40,7 @@ pub fn requests_keep_messages()
 /// An id that a client is given stands for the name from then on, and the client knows it.
 pub fn given_id_stands()
     ensures { (s : Session) (name : List ℕ) → IsTable topic_cmp s.topics
-        → IfSome (id_for s name) (StandsFor name s) }
+        → IfSome (id_for s name) (IsIdOf name s) }
 {}
 
 /// A SUBSCRIBE that finds room and an id leaves the filter at the quality of service that was asked

@@ -10,7 +10,7 @@ use mq_stream::{Fed, PacketIn};
 use std::alloc::Global;
 use std::io;
 use std::io::{ErrorKind, Read, Write};
-use std::net::{IpAddr, Ipv4Addr, Ipv6Addr, Net, SocketAddr};
+use std::net::{IpAddr, Ipv4Addr, Ipv6Addr, SocketAddr};
 
 /// The token of the connection to the broker. No lane has it.
 const BROKER: usize = 64;
@@ -37,8 +37,8 @@ fn any(like: SocketAddr) -> SocketAddr {
 
 impl Gate {
     /// A socket that speaks with the first gateway.
-    pub(crate) fn open<N: Net>(
-        net: &N,
+    pub(crate) fn open(
+        net: &HostRuntime,
         registry: &Registry,
         place: usize,
         gateways: &[SocketAddr],
@@ -90,8 +90,8 @@ impl Gate {
 }
 
 /// A socket at any port that is free, which wakes the loop.
-fn bound<N: Net>(
-    net: &N,
+fn bound(
+    net: &HostRuntime,
     registry: &Registry,
     place: usize,
     at: SocketAddr,
@@ -125,8 +125,8 @@ pub(crate) enum Looked {
 }
 
 /// Begins to connect.
-pub(crate) fn dial<N: Net>(
-    net: &N,
+pub(crate) fn dial(
+    net: &HostRuntime,
     alloc: Global,
     registry: &Registry,
     broker: SocketAddr,

@@ -4,7 +4,7 @@ use crate::keys::{bool_at, list_at, octets_of, qos_at, text_at, text_if, text_of
 use crate::stop::Stop;
 use br_core::{DownFilter, UpName};
 use br_map::{Prefix, PrefixFault, asks_for};
-use mq_packet::{Qos, is_filter, is_text, is_topic};
+use mq_packet::{Qos, is_filter_text, is_text, is_topic_text};
 use octets::Octets;
 use sn_topic::{Filter, TopicFault, TopicName};
 use std::alloc::Global;
@@ -87,7 +87,7 @@ fn above_of(alloc: Global, table: &Table) -> Result<Above, Stop> {
 /// A name that goes up.
 fn up_of(alloc: Global, above: &Above, name: &TopicName) -> Result<UpName, Stop> {
     let topic = above.prefix.topic_of(alloc, name)?;
-    if !is_topic(topic.as_slice()) {
+    if !is_topic_text(topic.as_slice()) {
         return Err(Stop::Key("up.to"));
     }
     Ok(UpName {
@@ -173,7 +173,7 @@ pub(crate) fn ups_in(alloc: Global, document: &Table) -> Result<Vec<UpName>, Sto
 fn filter_at(alloc: Global, table: &Table) -> Result<Octets, Stop> {
     let text = text_at(table, "filter", "down.filter")?;
     let filter = filter_of(alloc, text, "down.filter")?;
-    if is_filter(filter.as_slice()) {
+    if is_filter_text(filter.as_slice()) {
         Ok(filter)
     } else {
         drop(filter);

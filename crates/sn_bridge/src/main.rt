@@ -40,12 +40,8 @@ use crate::running::run;
 use crate::stop::Stop;
 use crate::words::asked_by;
 use std::alloc::Global;
-use std::env::Env;
-use std::fs::{File, Files};
-use std::io::{Eprint, Write};
-use std::net::Net;
+use std::io::Write;
 use std::process::ExitCode;
-use std::time::Clock;
 use std::{env, io};
 
 fn main(rt: HostRuntime) -> ExitCode {
@@ -61,10 +57,7 @@ fn main(rt: HostRuntime) -> ExitCode {
 }
 
 /// Everything that the program does.
-fn start<T, E: Write>(rt: &T, alloc: Global, err: &mut E) -> Result<(), Stop>
-where
-    T: Env + Files<File = File> + Eprint + Clock + Net,
-{
+fn start<E: Write>(rt: &HostRuntime, alloc: Global, err: &mut E) -> Result<(), Stop> {
     let Some(path) = asked_of(rt, alloc) else {
         return Err(Stop::Arguments);
     };
@@ -77,7 +70,7 @@ where
 }
 
 /// The path of the settings file, by the command line.
-fn asked_of<T: Env>(rt: &T, alloc: Global) -> Option<String> {
+fn asked_of(rt: &HostRuntime, alloc: Global) -> Option<String> {
     let mut words = Vec::new(alloc);
     for word in env::args(&(rt, alloc)).ok()? {
         words.push(word).ok()?;

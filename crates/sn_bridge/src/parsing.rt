@@ -10,7 +10,6 @@ use mq_packet::{Login, Qos, Will, is_text};
 use octets::{Octets, Sequence};
 use sn_topic::MAX_TOPIC;
 use std::alloc::Global;
-use std::fs::{File, Files};
 use std::net::SocketAddr;
 use toml::{Table, Value};
 
@@ -131,11 +130,7 @@ fn client_in(alloc: Global, document: &Table) -> Result<Octets, Stop> {
 }
 
 /// The password that a document names the file of.
-fn password_in<R: Files<File = File>>(
-    rt: &R,
-    alloc: Global,
-    document: &Table,
-) -> Result<Option<Octets>, Stop> {
+fn password_in(rt: &HostRuntime, alloc: Global, document: &Table) -> Result<Option<Octets>, Stop> {
     let Some(path) = text_if(document, "password", "password")? else {
         return Ok(None);
     };
@@ -154,11 +149,7 @@ fn no_login_in(document: &Table) -> Result<Option<Login>, Stop> {
 }
 
 /// Who connects to the broker.
-fn login_in<R: Files<File = File>>(
-    rt: &R,
-    alloc: Global,
-    document: &Table,
-) -> Result<Option<Login>, Stop> {
+fn login_in(rt: &HostRuntime, alloc: Global, document: &Table) -> Result<Option<Login>, Stop> {
     match text_if(document, "user", "user")? {
         None => no_login_in(document),
         Some(user) => Ok(Some(login_of(rt, alloc, document, user)?)),
@@ -166,12 +157,7 @@ fn login_in<R: Files<File = File>>(
 }
 
 /// A user of this name connects.
-fn login_of<R: Files<File = File>>(
-    rt: &R,
-    alloc: Global,
-    document: &Table,
-    user: &str,
-) -> Result<Login, Stop> {
+fn login_of(rt: &HostRuntime, alloc: Global, document: &Table, user: &str) -> Result<Login, Stop> {
     let user = user_of(alloc, user)?;
     match password_in(rt, alloc, document) {
         Ok(password) => Ok(Login { user, password }),
@@ -364,11 +350,7 @@ struct Carried {
 }
 
 /// Who connects to the broker, and the client id there.
-fn account_in<R: Files<File = File>>(
-    rt: &R,
-    alloc: Global,
-    document: &Table,
-) -> Result<Account, Stop> {
+fn account_in(rt: &HostRuntime, alloc: Global, document: &Table) -> Result<Account, Stop> {
     let client = client_in(alloc, document)?;
     match login_in(rt, alloc, document) {
         Ok(login) => Ok(Account { client, login }),
@@ -488,8 +470,8 @@ fn settings_of(
 
 /// What is carried: `client`, `user`, `password`, `lanes`, `window`, `spool`, `room`, the key of
 /// what is not there, `up` and `down`.
-fn settings_in<R: Files<File = File>>(
-    rt: &R,
+fn settings_in(
+    rt: &HostRuntime,
     alloc: Global,
     document: &Table,
     name: &str,
@@ -573,8 +555,8 @@ fn paths_in(alloc: Global, document: &Table, has_downs: bool) -> Result<Paths, S
 }
 
 /// What is carried, and the files for that.
-fn carried_in<R: Files<File = File>>(
-    rt: &R,
+fn carried_in(
+    rt: &HostRuntime,
     alloc: Global,
     document: &Table,
     name: &str,
@@ -606,11 +588,7 @@ fn setup_of(places: Places, carried: Carried) -> Setup {
 /// What a document asks for, the first bad key named: `name`, `gateways`, `broker`, `client`,
 /// `user`, `password`, `lanes`, `window`, `spool`, `room`, the key of what is not there, `up`,
 /// `down`, and `refused`.
-pub(crate) fn setup_in<R: Files<File = File>>(
-    rt: &R,
-    alloc: Global,
-    document: &Table,
-) -> Result<Setup, Stop> {
+pub(crate) fn setup_in(rt: &HostRuntime, alloc: Global, document: &Table) -> Result<Setup, Stop> {
     let name = name_in(document)?;
     let places = places_in(alloc, document)?;
     match carried_in(rt, alloc, document, name) {

@@ -4,7 +4,7 @@ use crate::ignored::tell_ignored;
 use crate::parsing::{Setup, setup_in};
 use crate::stop::Stop;
 use std::alloc::Global;
-use std::fs::{File, Files};
+use std::fs::File;
 use std::io;
 use std::io::{ErrorKind, Read, Write};
 
@@ -16,8 +16,8 @@ const LARGEST_PASSWORD: u64 = 65_535;
 
 /// What the settings of a file ask for. Where they cannot be read, or are no TOML document, a line
 /// says where.
-pub(crate) fn setup_at<R: Files<File = File>, E: Write>(
-    rt: &R,
+pub(crate) fn setup_at<E: Write>(
+    rt: &HostRuntime,
     alloc: Global,
     path: &str,
     err: &mut E,
@@ -39,8 +39,8 @@ pub(crate) fn setup_at<R: Files<File = File>, E: Write>(
 }
 
 /// The text of a file.
-fn text_at<R: Files<File = File>, E: Write>(
-    rt: &R,
+fn text_at<E: Write>(
+    rt: &HostRuntime,
     alloc: Global,
     path: &str,
     err: &mut E,
@@ -55,8 +55,8 @@ fn text_at<R: Files<File = File>, E: Write>(
 }
 
 /// The octets of a file.
-fn octets_at<R: Files<File = File>, E: Write>(
-    rt: &R,
+fn octets_at<E: Write>(
+    rt: &HostRuntime,
     alloc: Global,
     path: &str,
     err: &mut E,
@@ -73,8 +73,8 @@ fn octets_at<R: Files<File = File>, E: Write>(
 }
 
 /// Reads a file that is not too large. If it cannot be read, a line says why.
-fn read_whole<R: Files<File = File>, E: Write>(
-    rt: &R,
+fn read_whole<E: Write>(
+    rt: &HostRuntime,
     path: &str,
     octets: &mut Vec<u8>,
     err: &mut E,
@@ -100,20 +100,15 @@ fn unread(kind: ErrorKind) -> Stop {
 }
 
 /// Reads a file, one octet more than it may have at most.
-fn read_into<R: Files<File = File>>(
-    rt: &R,
-    path: &str,
-    most: u64,
-    octets: &mut Vec<u8>,
-) -> io::Result<()> {
+fn read_into(rt: &HostRuntime, path: &str, most: u64, octets: &mut Vec<u8>) -> io::Result<()> {
     let file = File::open(rt, path)?;
     file.take(most.saturating_add(1)).read_to_end(octets)?;
     Ok(())
 }
 
 /// The first line of a file, which is a password; nothing where it cannot be read or is too long.
-pub(crate) fn password_at<R: Files<File = File>>(
-    rt: &R,
+pub(crate) fn password_at(
+    rt: &HostRuntime,
     alloc: Global,
     path: &str,
 ) -> Result<Option<Vec<u8>>, Stop> {

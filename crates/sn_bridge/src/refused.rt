@@ -1,10 +1,10 @@
 //! The lines of what no side will have.
 
 use br_core::{Command, Why};
-use std::fs::{File, Files};
+use std::fs::File;
 use std::io::{Read, Seek, SeekFrom, Write};
 use std::os::unix::fs::OpenOptionsExt;
-use std::time::{Clock, Duration, SystemTime};
+use std::time::{Duration, SystemTime};
 use std::{fmt, io};
 
 /// Who may read and write the file: its owner.
@@ -44,7 +44,7 @@ fn word_of(why: Why) -> &'static str {
 }
 
 /// The second of the date.
-fn second<C: Clock>(clock: &C) -> u64 {
+fn second(clock: &HostRuntime) -> u64 {
     match SystemTime::now(clock) {
         Err(_) => 0,
         Ok(now) => now
@@ -72,7 +72,7 @@ fn is_whole(file: &File) -> io::Result<bool> {
 }
 
 /// Makes the name of a new file durable: its folder is synced.
-fn sync_folder<R: Files<File = File>>(rt: &R, path: &str) -> io::Result<()> {
+fn sync_folder(rt: &HostRuntime, path: &str) -> io::Result<()> {
     let folder = match path.rfind('/') {
         None => ".",
         Some(0) => "/",
@@ -83,7 +83,7 @@ fn sync_folder<R: Files<File = File>>(rt: &R, path: &str) -> io::Result<()> {
 
 /// The file, ready for a line. Before the first one its name is made durable. A line of which a
 /// failed write or a crash left the front alone is ended.
-fn opened<R: Files<File = File>>(rt: &R, path: &str) -> io::Result<File> {
+fn opened(rt: &HostRuntime, path: &str) -> io::Result<File> {
     let mut file = File::options()
         .read(true)
         .append(true)
@@ -100,7 +100,7 @@ fn opened<R: Files<File = File>>(rt: &R, path: &str) -> io::Result<File> {
 
 /// Writes a line into the file, and syncs it: second, quality of service, why, the broker's topic
 /// and the message in hexadecimal digits.
-fn write_line<R: Files<File = File> + Clock>(rt: &R, path: &str, owed: &Owed) -> io::Result<()> {
+fn write_line(rt: &HostRuntime, path: &str, owed: &Owed) -> io::Result<()> {
     let mut file = opened(rt, path)?;
     let second = second(rt);
     let qos = if owed.command.id == 0 { 0 } else { 1 };
@@ -112,10 +112,7 @@ fn write_line<R: Files<File = File> + Clock>(rt: &R, path: &str, owed: &Owed) ->
 }
 
 /// Writes a line, and tells that or why it was not. Says whether it is on the disk.
-pub(crate) fn keep<R, E: Write>(rt: &R, path: &str, owed: &Owed, err: &mut E) -> bool
-where
-    R: Files<File = File> + Clock,
-{
+pub(crate) fn keep<E: Write>(rt: &HostRuntime, path: &str, owed: &Owed, err: &mut E) -> bool {
     match write_line(rt, path, owed) {
         Ok(()) => {
             let _ = writeln!(err, "sn_bridge: no side will have a command: see {path}");

@@ -14,14 +14,13 @@ use mq_packet::Packet;
 use octets::Sequence;
 use sn_frame::{EncodeFault, Frame, FrameFault, decode, encode};
 use std::alloc::Global;
-use std::fs::{File, Files};
 use std::io::Write;
 use std::mem;
-use std::net::{Net, SocketAddr};
+use std::net::SocketAddr;
 use std::time::{Clock, Duration};
 
 /// How many milliseconds a turn waits for something to come; so often time goes by.
-const A_WHILE: u64 = 100;
+const TURN_WAIT_MS: u64 = 100;
 
 /// The most octets of a datagram, and of one read of the connection.
 const BUFFER: usize = 65_535;
@@ -67,7 +66,7 @@ struct Turning<'a> {
 }
 
 /// The millisecond of the clock that nobody sets.
-fn millisecond<C: Clock>(clock: &C) -> u64 {
+fn millisecond(clock: &HostRuntime) -> u64 {
     match clock.monotonic() {
         Ok(since) => since
             .as_secs()
@@ -78,20 +77,17 @@ fn millisecond<C: Clock>(clock: &C) -> u64 {
 }
 
 /// The moment of the clock that nobody sets.
-fn moment<C: Clock>(clock: &C) -> Moment {
+fn moment(clock: &HostRuntime) -> Moment {
     Moment::of(millisecond(clock) / 1_000)
 }
 
 /// Opens the sockets of all lanes, and runs until memory runs out.
-pub(crate) fn run<T, E: Write>(
-    rt: &T,
+pub(crate) fn run<E: Write>(
+    rt: &HostRuntime,
     alloc: Global,
     setup: &Setup,
     err: &mut E,
-) -> Result<(), Stop>
-where
-    T: Files<File = File> + Clock + Net,
-{
+) -> Result<(), Stop> {
     let found = found_in(rt, alloc, setup, err)?;
     match opened(rt, alloc, setup) {
         Ok(run) => run_from(rt, alloc, run, found, err),
@@ -103,24 +99,21 @@ where
 }
 
 /// Runs until memory runs out.
-fn run_from<T, E: Write>(
-    rt: &T,
+fn run_from<E: Write>(
+    rt: &HostRuntime,
     alloc: Global,
     mut run: Turning<'_>,
     found: Option<Found>,
     err: &mut E,
-) -> Result<(), Stop>
-where
-    T: Files<File = File> + Clock + Net,
-{
+) -> Result<(), Stop> {
     let done = run.begin(rt, alloc, found, err);
     drop(run);
     done
 }
 
 /// The spool of the settings, with what it has kept; nothing if they name none.
-fn found_in<R: Files<File = File>, E: Write>(
-    rt: &R,
+fn found_in<E: Write>(
+    rt: &HostRuntime,
     alloc: Global,
     setup: &Setup,
     err: &mut E,
@@ -132,8 +125,8 @@ fn found_in<R: Files<File = File>, E: Write>(
 }
 
 /// The sockets of so many lanes.
-fn open_lanes<N: Net>(
-    net: &N,
+fn open_lanes(
+    net: &HostRuntime,
     alloc: Global,
     registry: &Registry,
     gateways: &[SocketAddr],
@@ -154,8 +147,8 @@ struct Gates {
 }
 
 /// The sockets of all lanes.
-fn gates_of<N: Net>(
-    net: &N,
+fn gates_of(
+    net: &HostRuntime,
     alloc: Global,
     registry: &Registry,
     setup: &Setup,
@@ -173,7 +166,7 @@ fn gates_of<N: Net>(
 }
 
 /// A bridge that begins.
-fn opened<'a, T: Net>(rt: &T, alloc: Global, setup: &'a Setup) -> Result<Turning<'a>, Stop> {
+fn opened<'a>(rt: &HostRuntime, alloc: Global, setup: &'a Setup) -> Result<Turning<'a>, Stop> {
     let Ok(poll) = Poll::new(rt) else {
         return Err(Stop::Socket);
     };
@@ -251,16 +244,13 @@ fn written(alloc: Global, frame: &Frame) -> Result<Vec<u8>, Stop> {
 
 impl<'a> Turning<'a> {
     /// What the spool has kept goes on its way again; then turn after turn.
-    fn begin<T, E: Write>(
+    fn begin<E: Write>(
         &mut self,
-        rt: &T,
+        rt: &HostRuntime,
         alloc: Global,
         found: Option<Found>,
         err: &mut E,
-    ) -> Result<(), Stop>
-    where
-        T: Files<File = File> + Clock + Net,
-    {
+    ) -> Result<(), Stop> {
         if let Some(found) = found {
             self.resume(rt, alloc, found)?;
         }
@@ -269,7 +259,7 @@ impl<'a> Turning<'a> {
 
     /// The machine hears of all readings that the spool has kept, and from which number on it
     /// counts.
-    fn resume<T: Clock + Net>(&mut self, rt: &T, alloc: Global, found: Found) -> Result<(), Stop> {
+    fn resume(&mut self, rt: &HostRuntime, alloc: Global, found: Found) -> Result<(), Stop> {
         let Found { spool, items, next } = found;
         drop(mem::replace(&mut self.spool, Some(spool)));
         self.find_all(rt, alloc, items)?;
@@ -277,12 +267,7 @@ impl<'a> Turning<'a> {
     }
 
     /// Readings that the spool has kept go through the machine.
-    fn find_all<T: Clock + Net>(
-        &mut self,
-        rt: &T,
-        alloc: Global,
-        items: Vec<Item>,
-    ) -> Result<(), Stop> {
+    fn find_all(&mut self, rt: &HostRuntime, alloc: Global, items: Vec<Item>) -> Result<(), Stop> {
         for item in items {
             self.take_in(rt, alloc, Event::Found { item })?;
         }
@@ -290,10 +275,12 @@ impl<'a> Turning<'a> {
     }
 
     /// Turn after turn.
-    fn turns<T, E: Write>(&mut self, rt: &T, alloc: Global, err: &mut E) -> Result<(), Stop>
-    where
-        T: Files<File = File> + Clock + Net,
-    {
+    fn turns<E: Write>(
+        &mut self,
+        rt: &HostRuntime,
+        alloc: Global,
+        err: &mut E,
+    ) -> Result<(), Stop> {
         let mut events = Events::with_capacity(alloc, 64)?;
         let mut buffer = vec![in alloc; 0_u8; BUFFER]?;
         let mut told = Told::nothing();
@@ -308,23 +295,20 @@ impl<'a> Turning<'a> {
 
     /// Waits until something comes, or for a while.
     fn wait(&mut self, events: &mut Events) {
-        let wait = if self.is_busy { 0 } else { A_WHILE };
+        let wait = if self.is_busy { 0 } else { TURN_WAIT_MS };
         let _ = self.poll.poll(events, Some(Duration::from_millis(wait)));
         self.is_busy = false;
     }
 
     /// What is there on all sides, and the time; then what is to be written and sent. Readings of a
     /// turn go into the spool with one sync, and only then their lanes acknowledge them.
-    fn turn<T, E: Write>(
+    fn turn<E: Write>(
         &mut self,
-        rt: &T,
+        rt: &HostRuntime,
         alloc: Global,
         buffer: &mut [u8],
         err: &mut E,
-    ) -> Result<(), Stop>
-    where
-        T: Files<File = File> + Clock + Net,
-    {
+    ) -> Result<(), Stop> {
         self.hear_all(rt, alloc, buffer)?;
         self.end_lost(rt, alloc)?;
         self.pass_time(rt, alloc)?;
@@ -332,21 +316,16 @@ impl<'a> Turning<'a> {
     }
 
     /// What is there on all sides.
-    fn hear_all<T: Clock + Net>(
-        &mut self,
-        rt: &T,
-        alloc: Global,
-        buffer: &mut [u8],
-    ) -> Result<(), Stop> {
+    fn hear_all(&mut self, rt: &HostRuntime, alloc: Global, buffer: &mut [u8]) -> Result<(), Stop> {
         self.hear_lanes(rt, alloc, buffer)?;
         self.hear_down(rt, alloc, buffer)?;
         self.hear_broker(rt, alloc, buffer)
     }
 
     /// What the gateways of all lanes sent.
-    fn hear_lanes<T: Clock + Net>(
+    fn hear_lanes(
         &mut self,
-        rt: &T,
+        rt: &HostRuntime,
         alloc: Global,
         buffer: &mut [u8],
     ) -> Result<(), Stop> {
@@ -357,10 +336,12 @@ impl<'a> Turning<'a> {
     }
 
     /// What is to be written and sent.
-    fn write_all<T, E: Write>(&mut self, rt: &T, alloc: Global, err: &mut E) -> Result<(), Stop>
-    where
-        T: Files<File = File> + Clock + Net,
-    {
+    fn write_all<E: Write>(
+        &mut self,
+        rt: &HostRuntime,
+        alloc: Global,
+        err: &mut E,
+    ) -> Result<(), Stop> {
         self.write_spool(rt, alloc)?;
         self.write_owed(rt, alloc, err)?;
         self.flush();
@@ -368,7 +349,7 @@ impl<'a> Turning<'a> {
     }
 
     /// The machine hears that the connection to the broker has ended, if it has.
-    fn end_lost<T: Clock + Net>(&mut self, rt: &T, alloc: Global) -> Result<(), Stop> {
+    fn end_lost(&mut self, rt: &HostRuntime, alloc: Global) -> Result<(), Stop> {
         if !self.is_lost {
             return Ok(());
         }
@@ -385,12 +366,12 @@ impl<'a> Turning<'a> {
     }
 
     /// Time goes by, if a while has passed.
-    fn pass_time<T: Clock + Net>(&mut self, rt: &T, alloc: Global) -> Result<(), Stop> {
+    fn pass_time(&mut self, rt: &HostRuntime, alloc: Global) -> Result<(), Stop> {
         let now = millisecond(rt);
         if now < self.due {
             return Ok(());
         }
-        self.due = now.saturating_add(A_WHILE);
+        self.due = now.saturating_add(TURN_WAIT_MS);
         self.take_in(rt, alloc, Event::Tick)
     }
 
@@ -422,7 +403,7 @@ impl<'a> Turning<'a> {
     }
 
     /// An event goes through the machine, and what that gives is done.
-    fn take<T: Clock + Net>(&mut self, rt: &T, alloc: Global, event: &Event) -> Result<(), Stop> {
+    fn take(&mut self, rt: &HostRuntime, alloc: Global, event: &Event) -> Result<(), Stop> {
         let settings = &self.setup.settings;
         step(alloc, settings, event, moment(rt), &mut self.bridge)?;
         let out = mem::replace(&mut self.bridge.out, Sequence::empty(alloc));
@@ -432,16 +413,16 @@ impl<'a> Turning<'a> {
     }
 
     /// The same of an event that is not needed after that.
-    fn take_in<T: Clock + Net>(&mut self, rt: &T, alloc: Global, event: Event) -> Result<(), Stop> {
+    fn take_in(&mut self, rt: &HostRuntime, alloc: Global, event: Event) -> Result<(), Stop> {
         let done = self.take(rt, alloc, &event);
         drop(event);
         done
     }
 
     /// What a lane's gateway sent.
-    fn hear_lane<T: Clock + Net>(
+    fn hear_lane(
         &mut self,
-        rt: &T,
+        rt: &HostRuntime,
         alloc: Global,
         lane: usize,
         buffer: &mut [u8],
@@ -462,9 +443,9 @@ impl<'a> Turning<'a> {
     }
 
     /// What the gateway of the lane for commands sent.
-    fn hear_down<T: Clock + Net>(
+    fn hear_down(
         &mut self,
-        rt: &T,
+        rt: &HostRuntime,
         alloc: Global,
         buffer: &mut [u8],
     ) -> Result<(), Stop> {
@@ -482,9 +463,9 @@ impl<'a> Turning<'a> {
     }
 
     /// The frame of a datagram for a lane, or for the lane for commands.
-    fn take_frame<T: Clock + Net>(
+    fn take_frame(
         &mut self,
-        rt: &T,
+        rt: &HostRuntime,
         alloc: Global,
         lane: Option<usize>,
         datagram: &[u8],
@@ -509,9 +490,9 @@ impl<'a> Turning<'a> {
     }
 
     /// What the broker sent.
-    fn hear_broker<T: Clock + Net>(
+    fn hear_broker(
         &mut self,
-        rt: &T,
+        rt: &HostRuntime,
         alloc: Global,
         buffer: &mut [u8],
     ) -> Result<(), Stop> {
@@ -526,12 +507,7 @@ impl<'a> Turning<'a> {
     }
 
     /// What a look found goes through the machine. Says whether more may be there.
-    fn take_look<T: Clock + Net>(
-        &mut self,
-        rt: &T,
-        alloc: Global,
-        found: Looked,
-    ) -> Result<bool, Stop> {
+    fn take_look(&mut self, rt: &HostRuntime, alloc: Global, found: Looked) -> Result<bool, Stop> {
         match found {
             Looked::Nothing => Ok(false),
             Looked::Opened => {
@@ -555,9 +531,9 @@ impl<'a> Turning<'a> {
     }
 
     /// Packets of the broker, one after the other.
-    fn take_packets<T: Clock + Net>(
+    fn take_packets(
         &mut self,
-        rt: &T,
+        rt: &HostRuntime,
         alloc: Global,
         packets: Vec<Packet>,
     ) -> Result<(), Stop> {
@@ -568,20 +544,15 @@ impl<'a> Turning<'a> {
     }
 
     /// A packet of the broker.
-    fn take_packet<T: Clock + Net>(
-        &mut self,
-        rt: &T,
-        alloc: Global,
-        packet: Packet,
-    ) -> Result<(), Stop> {
+    fn take_packet(&mut self, rt: &HostRuntime, alloc: Global, packet: Packet) -> Result<(), Stop> {
         self.note(refusal_in_packet(&packet));
         self.take_in(rt, alloc, Event::Broker { packet })
     }
 
     /// Does all that is to be done, in its order.
-    fn carry_out_all<T: Net>(
+    fn carry_out_all(
         &mut self,
-        rt: &T,
+        rt: &HostRuntime,
         alloc: Global,
         actions: &[Action],
     ) -> Result<(), Stop> {
@@ -592,7 +563,7 @@ impl<'a> Turning<'a> {
     }
 
     /// Does one thing that is to be done.
-    fn carry_out<T: Net>(&mut self, rt: &T, alloc: Global, action: &Action) -> Result<(), Stop> {
+    fn carry_out(&mut self, rt: &HostRuntime, alloc: Global, action: &Action) -> Result<(), Stop> {
         match action {
             Action::ToField { lane, frame } => self.send(alloc, *lane, frame),
             Action::ToCommands { frame } => self.send_down(alloc, frame),
@@ -609,7 +580,7 @@ impl<'a> Turning<'a> {
     }
 
     /// Turns to another gateway, dials the broker or hangs up, if it is that which is to be done.
-    fn connect<T: Net>(&mut self, rt: &T, alloc: Global, action: &Action) {
+    fn connect(&mut self, rt: &HostRuntime, alloc: Global, action: &Action) {
         let gateways = self.setup.gateways.as_slice();
         match action {
             Action::NextGateway { lane } => {
@@ -677,7 +648,7 @@ impl<'a> Turning<'a> {
     }
 
     /// What became of the spool in this turn.
-    fn kept<T: Files<File = File> + Clock>(&mut self, rt: &T, alloc: Global) -> Result<Kept, Stop> {
+    fn kept(&mut self, rt: &HostRuntime, alloc: Global) -> Result<Kept, Stop> {
         let (now, next) = (millisecond(rt), self.bridge.number);
         match &mut self.spool {
             None => Ok(Kept::Nothing),
@@ -686,10 +657,7 @@ impl<'a> Turning<'a> {
     }
 
     /// Writes what is to go into the spool, and tells the machine what became of it.
-    fn write_spool<T>(&mut self, rt: &T, alloc: Global) -> Result<(), Stop>
-    where
-        T: Files<File = File> + Clock + Net,
-    {
+    fn write_spool(&mut self, rt: &HostRuntime, alloc: Global) -> Result<(), Stop> {
         match self.kept(rt, alloc)? {
             Kept::Nothing => Ok(()),
             Kept::Below { number } => self.take_in(rt, alloc, Event::Stored { below: number }),
@@ -701,7 +669,7 @@ impl<'a> Turning<'a> {
     }
 
     /// Dials the broker.
-    fn dial<T: Net>(&mut self, rt: &T, alloc: Global) {
+    fn dial(&mut self, rt: &HostRuntime, alloc: Global) {
         match dial(rt, alloc, self.poll.registry(), self.setup.broker) {
             Ok(line) => self.line = Some(line),
             Err(_) => {
@@ -722,10 +690,12 @@ impl<'a> Turning<'a> {
 
     /// Writes the first line that is owed. Where that fails it is owed still, and nothing is
     /// acknowledged.
-    fn write_owed<T, E: Write>(&mut self, rt: &T, alloc: Global, err: &mut E) -> Result<(), Stop>
-    where
-        T: Files<File = File> + Clock + Net,
-    {
+    fn write_owed<E: Write>(
+        &mut self,
+        rt: &HostRuntime,
+        alloc: Global,
+        err: &mut E,
+    ) -> Result<(), Stop> {
         let Some(path) = &self.setup.refused else {
             return Ok(());
         };

@@ -12,7 +12,7 @@ use crate::stop::Stop;
 use br_core::Item;
 use br_spool::{Held, SPOOL, SpoolFault, delta_of, held_in};
 use file_disk::{FileDisk, FileDiskFault};
-use gw_main::{Tended, base_of, is_grown, next_try, number_of, tend};
+use gw_main::{Tended, begin_fault_number, changed_length, is_grown, next_try, tend};
 use gw_node::{Node, NodeFault};
 use jr_disk::{Disk, Slot};
 use octets::Sequence;
@@ -21,7 +21,7 @@ use rep_state::Folded;
 use sn_local::Config;
 use sn_topic::Predefined;
 use std::alloc::Global;
-use std::fs::{File, Files, metadata};
+use std::fs::metadata;
 use std::io::Write;
 
 /// After how many milliseconds numbers that may be forgotten are written, if no reading is.
@@ -85,8 +85,8 @@ pub(crate) struct Found {
 }
 
 /// The two files of a spool. That none was there is told.
-fn disk_at<R: Files<File = File>, E: Write>(
-    rt: &R,
+fn disk_at<E: Write>(
+    rt: &HostRuntime,
     alloc: Global,
     path: &str,
     err: &mut E,
@@ -132,7 +132,7 @@ fn node_on(alloc: Global, disk: FileDisk) -> Result<Node<Folded, FileDisk>, Stop
         Ok(node) => Ok(node),
         Err((disk, fault)) => {
             drop(disk);
-            let number = number_of(&fault);
+            let number = begin_fault_number(&fault);
             drop(fault);
             Err(Stop::Spool(number))
         }
@@ -148,8 +148,8 @@ fn stop_of(fault: SpoolFault) -> Stop {
 }
 
 /// Opens the spool at a path, with the readings that it has kept, in the order of their numbers.
-pub(crate) fn open<R: Files<File = File>, E: Write>(
-    rt: &R,
+pub(crate) fn open<E: Write>(
+    rt: &HostRuntime,
     alloc: Global,
     path: &str,
     err: &mut E,
@@ -272,7 +272,7 @@ fn spool_at(alloc: Global, node: Node<Folded, FileDisk>, path: String, below: u6
 
 /// The number by which a refused write is told.
 fn number_of_refusal(fault: NodeFault) -> u8 {
-    let number = number_of(&fault);
+    let number = begin_fault_number(&fault);
     drop(fault);
     number
 }
@@ -286,7 +286,7 @@ fn is_written(tended: Tended) -> bool {
 }
 
 /// The length of a file of a journal, in octets; nothing if the system does not tell it.
-fn length_of<R: Files<File = File>>(rt: &R, alloc: Global, path: &str, slot: u8) -> Option<u64> {
+fn length_of(rt: &HostRuntime, alloc: Global, path: &str, slot: u8) -> Option<u64> {
     let name = format!(in alloc; "{path}.{slot}").ok()?;
     match metadata(rt, name.as_str()) {
         Ok(found) => Some(found.len()),
@@ -311,14 +311,14 @@ impl Spool {
     }
 
     /// The lengths of both files.
-    fn lengths<R: Files<File = File>>(&self, rt: &R, alloc: Global) -> Option<(u64, u64)> {
+    fn lengths(&self, rt: &HostRuntime, alloc: Global) -> Option<(u64, u64)> {
         let first = length_of(rt, alloc, self.path.as_str(), 0)?;
         let second = length_of(rt, alloc, self.path.as_str(), 1)?;
         Some((first, second))
     }
 
     /// Whether the journal has grown enough to be written anew.
-    fn is_grown<R: Files<File = File>>(&self, rt: &R, alloc: Global) -> bool {
+    fn is_grown(&self, rt: &HostRuntime, alloc: Global) -> bool {
         match self.lengths(rt, alloc) {
             None => false,
             Some((first, second)) => {
@@ -330,7 +330,7 @@ impl Spool {
 
     /// Writes the journal anew, or opens it again if a write has failed. Says whether it can be
     /// written then, or by which number it is told that it cannot.
-    fn tend<R: Files<File = File>>(&mut self, rt: &R, alloc: Global) -> Result<(), u8> {
+    fn tend(&mut self, rt: &HostRuntime, alloc: Global) -> Result<(), u8> {
         let before = self.lengths(rt, alloc);
         match tend(alloc, &mut self.node) {
             Err(fault) => Err(number_of_refusal(fault)),
@@ -342,18 +342,13 @@ impl Spool {
     }
 
     /// The journal was written anew, before which the files had these lengths.
-    fn note_lengths<R: Files<File = File>>(
-        &mut self,
-        rt: &R,
-        alloc: Global,
-        before: Option<(u64, u64)>,
-    ) {
+    fn note_lengths(&mut self, rt: &HostRuntime, alloc: Global, before: Option<(u64, u64)>) {
         let Some(after) = self.lengths(rt, alloc) else {
             return;
         };
         self.both = after.0.saturating_add(after.1);
         self.base = match before {
-            Some(before) => base_of(before, after),
+            Some(before) => changed_length(before, after),
             None => after.0.max(after.1),
         };
     }
@@ -406,12 +401,7 @@ impl Spool {
     }
 
     /// Makes the journal ready, if it is not, and shorter, if it has grown.
-    fn make_ready<R: Files<File = File>>(
-        &mut self,
-        rt: &R,
-        alloc: Global,
-        now: u64,
-    ) -> Result<(), u8> {
+    fn make_ready(&mut self, rt: &HostRuntime, alloc: Global, now: u64) -> Result<(), u8> {
         if self.is_ready && now < self.look {
             return Ok(());
         }
@@ -427,9 +417,9 @@ impl Spool {
     /// Writes what waits, as much as a delta takes, and syncs it, if the time has come: `next` is
     /// the number of the next reading. After a failure the spool takes no readings until a later
     /// try goes well.
-    pub(crate) fn write<R: Files<File = File>>(
+    pub(crate) fn write(
         &mut self,
-        rt: &R,
+        rt: &HostRuntime,
         alloc: Global,
         now: u64,
         next: u64,

@@ -5,10 +5,10 @@ use Rattle.sn_frame.specs.declared.flags.Qos.TheVariants as levels
 use Rattle.sn_frame.specs.declared.flags.TopicIdType.{TopicIdType}
 use Rattle.sn_frame.specs.declared.flags.TopicIdType.TheVariants as kinds
 use Rattle.sn_frame.specs.FlagBits.{qos_of, kind_of, kind_bits}
-use Rattle.sn_client.specs.inner.Asking.{qos_bits, retain_bit}
+use Rattle.sn_client.specs.inner.Asking.{qos_flag_bits, retain_flag_bit}
 
 -- the quality of service
-pub flags_qos : (q : Qos) (r : Bool) (k : TopicIdType) → qos_of (qos_bits q + retain_bit r + kind_bits k) ≡ q
+pub flags_qos : (q : Qos) (r : Bool) (k : TopicIdType) → qos_of (qos_flag_bits q + retain_flag_bit r + kind_bits k) ≡ q
 flags_qos levels.Zero true kinds.Normal = refl
 flags_qos levels.Zero true kinds.Predefined = refl
 flags_qos levels.Zero true kinds.Short = refl
@@ -43,7 +43,7 @@ flags_qos levels.MinusOne false kinds.Short = refl
 flags_qos levels.MinusOne false kinds.Reserved = refl
 
 -- the type of the topic
-pub flags_kind : (q : Qos) (r : Bool) (k : TopicIdType) → kind_of (qos_bits q + retain_bit r + kind_bits k) ≡ k
+pub flags_kind : (q : Qos) (r : Bool) (k : TopicIdType) → kind_of (qos_flag_bits q + retain_flag_bit r + kind_bits k) ≡ k
 flags_kind levels.Zero true kinds.Normal = refl
 flags_kind levels.Zero true kinds.Predefined = refl
 flags_kind levels.Zero true kinds.Short = refl
@@ -78,7 +78,7 @@ flags_kind levels.MinusOne false kinds.Short = refl
 flags_kind levels.MinusOne false kinds.Reserved = refl
 
 -- whether the publication is to be kept
-pub flags_retain : (q : Qos) (r : Bool) (k : TopicIdType) → IsTrue r ↔ IsBitSet (qos_bits q + retain_bit r + kind_bits k) 4
+pub flags_retain : (q : Qos) (r : Bool) (k : TopicIdType) → IsTrue r ↔ IsBitSet (qos_flag_bits q + retain_flag_bit r + kind_bits k) 4
 flags_retain levels.Zero true kinds.Normal = (λ t. λ e. absurd (omega arith), λ b. refl)
 flags_retain levels.Zero true kinds.Predefined = (λ t. λ e. absurd (omega arith), λ b. refl)
 flags_retain levels.Zero true kinds.Short = (λ t. λ e. absurd (omega arith), λ b. refl)

@@ -16,8 +16,8 @@ use std::alloc::Global;
 const PROTOCOL: u8 = 1;
 
 /// The bits of a quality of service.
-fn qos_bits(qos: Qos) -> u8
-    ensures value { result ≡ spec.qos_bits qos }
+fn qos_flag_bits(qos: Qos) -> u8
+    ensures value { result ≡ spec.qos_flag_bits qos }
     ensures most { result ≤ 96 }
 {
     match qos {
@@ -42,8 +42,8 @@ fn kind_bits(kind: TopicIdType) -> u8
 }
 
 /// The bit that says that a publication is to be kept.
-fn retain_bit(retain: bool) -> u8
-    ensures value { result ≡ spec.retain_bit retain }
+fn retain_flag_bit(retain: bool) -> u8
+    ensures value { result ≡ spec.retain_flag_bit retain }
     ensures most { result ≤ 16 }
 {
     if retain { 16 } else { 0 }
@@ -58,7 +58,7 @@ fn flags_of(qos: Qos, retain: bool, kind: TopicIdType) -> Flags
     ensures retain { IsTrue retain ↔ IsBitSet result.bits 4 }
 {
     Flags {
-        bits: qos_bits(qos) + retain_bit(retain) + kind_bits(kind),
+        bits: qos_flag_bits(qos) + retain_flag_bit(retain) + kind_bits(kind),
     }
 }
 

@@ -31,10 +31,7 @@ mod words;
 use clap::Error;
 use clap::error::ErrorKind;
 use run::{Fault, converse};
-use std::net::Net;
 use std::process::ExitCode;
-use std::rt::Env;
-use std::time::Clock;
 use words::{Settings, Unread, read};
 
 /// The status of a run whose socket, clock, output or memory failed.
@@ -48,7 +45,7 @@ fn main(rt: HostRuntime) -> ExitCode {
 }
 
 /// The status of a run.
-fn status<R: Env + Net + Clock + Print + Eprint + AllocGlobal>(rt: &R) -> u8 {
+fn status(rt: &HostRuntime) -> u8 {
     match carry_out(rt) {
         Ok(status) => status,
         Err(fault) => {
@@ -62,7 +59,7 @@ fn status<R: Env + Net + Clock + Print + Eprint + AllocGlobal>(rt: &R) -> u8 {
 }
 
 /// Reads the arguments, and does what they ask for.
-fn carry_out<R: Env + Net + Clock + Print + Eprint + AllocGlobal>(rt: &R) -> Result<u8, Fault> {
+fn carry_out(rt: &HostRuntime) -> Result<u8, Fault> {
     let words = given(rt)?;
     let done = obey(rt, words.as_slice());
     drop(words);
@@ -70,16 +67,13 @@ fn carry_out<R: Env + Net + Clock + Print + Eprint + AllocGlobal>(rt: &R) -> Res
 }
 
 /// The arguments, the program's name first.
-fn given<R: Env + AllocGlobal>(rt: &R) -> Result<Vec<String>, Fault> {
+fn given(rt: &HostRuntime) -> Result<Vec<String>, Fault> {
     let words = std::env::args(rt)?;
     Ok(words.collect(rt.alloc())?)
 }
 
 /// Does what these words ask for, or says why they ask for nothing.
-fn obey<R: Net + Clock + Print + Eprint + AllocGlobal>(
-    rt: &R,
-    words: &[String],
-) -> Result<u8, Fault> {
+fn obey(rt: &HostRuntime, words: &[String]) -> Result<u8, Fault> {
     match read(rt.alloc(), words) {
         Ok(settings) => follow(rt, &settings),
         Err(unread) => {
@@ -91,16 +85,13 @@ fn obey<R: Net + Clock + Print + Eprint + AllocGlobal>(
 }
 
 /// Does what the settings ask for.
-fn follow<R: Net + Clock + Print + AllocGlobal>(
-    rt: &R,
-    settings: &Settings<'_>,
-) -> Result<u8, Fault> {
+fn follow(rt: &HostRuntime, settings: &Settings<'_>) -> Result<u8, Fault> {
     let outcome = converse(rt, settings)?;
     Ok(outcome.status())
 }
 
 /// Says why the arguments are no command, or gives the help that they ask for.
-fn explain<R: Print + Eprint>(rt: &R, unread: &Unread) -> Result<u8, Fault> {
+fn explain(rt: &HostRuntime, unread: &Unread) -> Result<u8, Fault> {
     match unread {
         Unread::Words(error) => {
             error.print(rt)?;

@@ -11,7 +11,6 @@ use crate::words::{Command, Settings};
 use octets::NoMemory;
 use sn_frame::{EncodeFault, Frame, FrameFault, decode, encode};
 use std::alloc::{AllocError, Global};
-use std::net::Net;
 use std::time::{Clock, Duration, Instant, SystemTime};
 use std::{fmt, io};
 
@@ -107,10 +106,7 @@ fn millis(duration: Duration) -> u64 {
 }
 
 /// What the settings ask for, by a socket of its own.
-pub(crate) fn converse<R: Net + Clock + Print + AllocGlobal>(
-    rt: &R,
-    settings: &Settings<'_>,
-) -> Result<Outcome, Fault> {
+pub(crate) fn converse(rt: &HostRuntime, settings: &Settings<'_>) -> Result<Outcome, Fault> {
     let wire = opened(rt, settings)?;
     let outcome = converse_by(rt, settings, &wire);
     drop(wire);
@@ -118,7 +114,7 @@ pub(crate) fn converse<R: Net + Clock + Print + AllocGlobal>(
 }
 
 /// The socket that the settings ask for.
-fn opened<R: Net>(rt: &R, settings: &Settings<'_>) -> Result<Wire, Fault> {
+fn opened(rt: &HostRuntime, settings: &Settings<'_>) -> Result<Wire, Fault> {
     match Wire::open(rt, settings.port, settings.gateway) {
         Ok(wire) => Ok(wire),
         Err(error) => Err(Fault::Port {
@@ -129,11 +125,7 @@ fn opened<R: Net>(rt: &R, settings: &Settings<'_>) -> Result<Wire, Fault> {
 }
 
 /// The command that was asked for, after a connection where one is asked for.
-fn converse_by<R: Clock + Print + AllocGlobal>(
-    rt: &R,
-    settings: &Settings<'_>,
-    wire: &Wire,
-) -> Result<Outcome, Fault> {
+fn converse_by(rt: &HostRuntime, settings: &Settings<'_>, wire: &Wire) -> Result<Outcome, Fault> {
     introduce(rt, settings, wire)?;
     if settings.connect {
         let outcome = exchange(rt, settings, wire, &CONNECT, true)?;
@@ -145,14 +137,14 @@ fn converse_by<R: Clock + Print + AllocGlobal>(
 }
 
 /// Says who speaks, and with whom.
-fn introduce<R: Print>(rt: &R, settings: &Settings<'_>, wire: &Wire) -> io::Result<()> {
+fn introduce(rt: &HostRuntime, settings: &Settings<'_>, wire: &Wire) -> io::Result<()> {
     let (client, gateway, port) = (settings.client, settings.gateway, wire.port()?);
     println!(rt; "-- client {client:?} at port {port}, gateway {gateway}")
 }
 
 /// One exchange, which another follows or not.
-fn exchange<R: Clock + Print + AllocGlobal>(
-    rt: &R,
+fn exchange(
+    rt: &HostRuntime,
     settings: &Settings<'_>,
     wire: &Wire,
     command: &Command<'_>,
@@ -175,8 +167,8 @@ fn exchange<R: Clock + Print + AllocGlobal>(
 }
 
 /// The beginning of an exchange for a command.
-fn talk_of<R: Clock + AllocGlobal>(
-    rt: &R,
+fn talk_of(
+    rt: &HostRuntime,
     settings: &Settings<'_>,
     command: &Command<'_>,
 ) -> Result<Talk, Fault> {
@@ -186,21 +178,13 @@ fn talk_of<R: Clock + AllocGlobal>(
 
 impl Run<'_> {
     /// The exchange, to its end.
-    fn exchange<R: Clock + Print + AllocGlobal>(
-        &mut self,
-        rt: &R,
-        command: &Command<'_>,
-    ) -> Result<Outcome, Fault> {
+    fn exchange(&mut self, rt: &HostRuntime, command: &Command<'_>) -> Result<Outcome, Fault> {
         self.carry_on(rt, command)?;
         Ok(self.conclude(rt)?)
     }
 
     /// Speaks and hears, with room for a datagram.
-    fn carry_on<R: Clock + Print + AllocGlobal>(
-        &mut self,
-        rt: &R,
-        command: &Command<'_>,
-    ) -> Result<(), Fault> {
+    fn carry_on(&mut self, rt: &HostRuntime, command: &Command<'_>) -> Result<(), Fault> {
         let mut buffer = vec![in rt.alloc(); 0_u8; DATAGRAM]?;
         let done = self.speak_and_hear(rt, command, buffer.as_mut_slice());
         drop(buffer);
@@ -208,7 +192,7 @@ impl Run<'_> {
     }
 
     /// Says how the exchange has ended where nothing says that it did.
-    fn conclude<R: Print>(&self, rt: &R) -> io::Result<Outcome> {
+    fn conclude(&self, rt: &HostRuntime) -> io::Result<Outcome> {
         let outcome = self.concluded();
         if outcome == Outcome::Unanswered {
             let why = self.silence();
@@ -218,9 +202,9 @@ impl Run<'_> {
     }
 
     /// Speaks and hears until the exchange is over.
-    fn speak_and_hear<R: Clock + Print + AllocGlobal>(
+    fn speak_and_hear(
         &mut self,
-        rt: &R,
+        rt: &HostRuntime,
         command: &Command<'_>,
         buffer: &mut [u8],
     ) -> Result<(), Fault> {
@@ -234,9 +218,9 @@ impl Run<'_> {
     }
 
     /// Speaks and hears once more. Whether the exchange is over in place of that.
-    fn go_on<R: Clock + Print + AllocGlobal>(
+    fn go_on(
         &mut self,
-        rt: &R,
+        rt: &HostRuntime,
         command: &Command<'_>,
         buffer: &mut [u8],
         start: Instant,
@@ -250,9 +234,9 @@ impl Run<'_> {
     }
 
     /// Speaks and hears once.
-    fn take_turns<R: Print + AllocGlobal>(
+    fn take_turns(
         &mut self,
-        rt: &R,
+        rt: &HostRuntime,
         command: &Command<'_>,
         buffer: &mut [u8],
         moment: u64,
@@ -288,7 +272,7 @@ impl Run<'_> {
     }
 
     /// Sends the pending frame, where it is due.
-    fn speak<R: Print + AllocGlobal>(&mut self, rt: &R, moment: u64) -> Result<(), Fault> {
+    fn speak(&mut self, rt: &HostRuntime, moment: u64) -> Result<(), Fault> {
         if !self.pace.is_due(&self.talk, moment) {
             return Ok(());
         }
@@ -301,14 +285,14 @@ impl Run<'_> {
     }
 
     /// Sends the pending frame.
-    fn send_pending<R: Print + AllocGlobal>(&self, rt: &R) -> Result<(), Fault> {
+    fn send_pending(&self, rt: &HostRuntime) -> Result<(), Fault> {
         say(rt, self.wire, &self.talk.pending, self.hex)
     }
 
     /// Takes a datagram, if one comes within a while.
-    fn hear<R: Print + AllocGlobal>(
+    fn hear(
         &mut self,
-        rt: &R,
+        rt: &HostRuntime,
         command: &Command<'_>,
         buffer: &mut [u8],
         moment: u64,
@@ -320,9 +304,9 @@ impl Run<'_> {
     }
 
     /// What a datagram leads to.
-    fn heed<R: Print + AllocGlobal>(
+    fn heed(
         &mut self,
-        rt: &R,
+        rt: &HostRuntime,
         command: &Command<'_>,
         octets: &[u8],
         moment: u64,
@@ -337,9 +321,9 @@ impl Run<'_> {
     }
 
     /// What the frame of a datagram leads to.
-    fn heed_frame<R: Print + AllocGlobal>(
+    fn heed_frame(
         &mut self,
-        rt: &R,
+        rt: &HostRuntime,
         command: &Command<'_>,
         frame: &Frame,
         octets: &[u8],
@@ -350,9 +334,9 @@ impl Run<'_> {
     }
 
     /// What a frame that came leads to.
-    fn answer<R: Print + AllocGlobal>(
+    fn answer(
         &mut self,
-        rt: &R,
+        rt: &HostRuntime,
         command: &Command<'_>,
         frame: &Frame,
         moment: u64,
@@ -369,7 +353,7 @@ impl Run<'_> {
     }
 
     /// Sends what acknowledges a frame, if anything does.
-    fn acknowledge<R: Print + AllocGlobal>(&self, rt: &R, frame: &Frame) -> Result<(), Fault> {
+    fn acknowledge(&self, rt: &HostRuntime, frame: &Frame) -> Result<(), Fault> {
         let reply = reply_to(frame);
         let said = say(rt, self.wire, &reply, self.hex);
         drop(reply);
@@ -377,9 +361,9 @@ impl Run<'_> {
     }
 
     /// Sends what a frame asks of a will, if it asks.
-    fn tell_will<R: Print + AllocGlobal>(
+    fn tell_will(
         &self,
-        rt: &R,
+        rt: &HostRuntime,
         command: &Command<'_>,
         frame: &Frame,
     ) -> Result<(), Fault> {
@@ -405,12 +389,7 @@ fn is_farewell(frame: &Frame, awaited: Awaited) -> bool {
 }
 
 /// Sends a frame, if there is one, and tells it.
-fn say<R: Print + AllocGlobal>(
-    rt: &R,
-    wire: &Wire,
-    frame: &Option<Frame>,
-    hex: bool,
-) -> Result<(), Fault> {
+fn say(rt: &HostRuntime, wire: &Wire, frame: &Option<Frame>, hex: bool) -> Result<(), Fault> {
     match frame {
         None => Ok(()),
         Some(frame) => send(rt, wire, frame, hex),
@@ -418,12 +397,7 @@ fn say<R: Print + AllocGlobal>(
 }
 
 /// Sends a frame, and tells it.
-fn send<R: Print + AllocGlobal>(
-    rt: &R,
-    wire: &Wire,
-    frame: &Frame,
-    hex: bool,
-) -> Result<(), Fault> {
+fn send(rt: &HostRuntime, wire: &Wire, frame: &Frame, hex: bool) -> Result<(), Fault> {
     let octets = written(rt.alloc(), frame)?;
     let sent = tell_and_send(rt, wire, frame, octets.as_slice(), hex);
     drop(octets);
@@ -431,8 +405,8 @@ fn send<R: Print + AllocGlobal>(
 }
 
 /// Tells a frame, and sends its octets.
-fn tell_and_send<R: Print>(
-    rt: &R,
+fn tell_and_send(
+    rt: &HostRuntime,
     wire: &Wire,
     frame: &Frame,
     octets: &[u8],
@@ -460,20 +434,20 @@ fn written(alloc: Global, frame: &Frame) -> Result<Vec<u8>, EncodeFault> {
 }
 
 /// Prints a frame in words, and its octets where they are asked for.
-fn tell<R: Print>(rt: &R, way: &str, frame: &Frame, octets: &[u8], hex: bool) -> io::Result<()> {
+fn tell(rt: &HostRuntime, way: &str, frame: &Frame, octets: &[u8], hex: bool) -> io::Result<()> {
     let told = Told(frame);
     println!(rt; "{way} {told}")?;
     if hex { tell_octets(rt, octets) } else { Ok(()) }
 }
 
 /// Prints the octets of a frame.
-fn tell_octets<R: Print>(rt: &R, octets: &[u8]) -> io::Result<()> {
+fn tell_octets(rt: &HostRuntime, octets: &[u8]) -> io::Result<()> {
     let digits = Hex(octets);
     println!(rt; "   {digits}")
 }
 
 /// Prints why a datagram spells no frame.
-fn tell_fault<R: Print>(rt: &R, fault: &FrameFault, octets: &[u8]) -> Result<(), Fault> {
+fn tell_fault(rt: &HostRuntime, fault: &FrameFault, octets: &[u8]) -> Result<(), Fault> {
     if matches!(fault, FrameFault::Memory) {
         return Err(Fault::Memory);
     }

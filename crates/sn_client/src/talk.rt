@@ -2,7 +2,7 @@
 //! (MQTT-SN 1.2 sections 6.2 to 6.14).
 
 ghost use Rattle.std.specs.Prelude.{◌≡◌, option_map};
-ghost use Rattle.sn_client.specs.inner.Talking.{status_of, repeated, turn_of};
+ghost use Rattle.sn_client.specs.inner.Talking.{outcome_status, repeated, turn_of};
 ghost use Rattle.sn_client.specs.inner.Talking as spec;
 ghost use Rattle.sn_client.specs.inner.Exchanges.{beginning, frame_by_id, outcome_of, planned_of, publishing_of, turned};
 ghost use Rattle.sn_client.specs.inner.Exchanges as exchanges;
@@ -102,7 +102,7 @@ pub(crate) struct Talk {
 impl Outcome {
     /// The status of the program.
     pub(crate) fn status(self) -> u8
-        ensures { result ≡ status_of self }
+        ensures { result ≡ outcome_status self }
     {
         match self {
             Outcome::Accepted => 0,
@@ -150,8 +150,8 @@ pub(crate) fn outcome_at(qos: Qos) -> Option<Outcome>
 /// How an exchange has ended where one more answer comes. Its frame may have been sent again, so
 /// what was accepted stays accepted; where nothing accepts, and it was only taken for that, a
 /// refusal counts.
-fn ended(awaited: Awaited, had: Option<Outcome>, outcome: Outcome) -> Outcome
-    ensures { result ≡ exchanges.ended awaited had outcome }
+fn outcome_after(awaited: Awaited, had: Option<Outcome>, outcome: Outcome) -> Outcome
+    ensures { result ≡ exchanges.outcome_after awaited had outcome }
 {
     match (awaited, had) {
         (Awaited::Refusal { .. }, _) => outcome,
@@ -213,7 +213,7 @@ impl Talk {
             Turn::Publish { topic_id } => self.publish(topic_id),
             Turn::Release { msg_id } => self.release(msg_id),
             Turn::End { outcome } => {
-                self.outcome = Some(ended(self.awaited, self.outcome, outcome));
+                self.outcome = Some(outcome_after(self.awaited, self.outcome, outcome));
                 false
             }
         }

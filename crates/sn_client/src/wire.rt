@@ -4,11 +4,11 @@ ghost use Rattle.std.specs.Prelude.{◌≤◌, IfOk, IfSome, length};
 
 use std::io;
 use std::io::ErrorKind;
-use std::net::{IpAddr, Ipv4Addr, Ipv6Addr, Net, SocketAddr, UdpSocket};
+use std::net::{IpAddr, Ipv4Addr, Ipv6Addr, SocketAddr, UdpSocket};
 use std::time::Duration;
 
 /// How many milliseconds a receive waits for a datagram.
-const A_WHILE: u64 = 50;
+const RECV_TIMEOUT_MS: u64 = 50;
 
 /// A socket, and the gateway that it speaks with.
 #[derive(Drop)]
@@ -19,10 +19,10 @@ pub(crate) struct Wire {
 
 impl Wire {
     /// A socket that is bound to a port; with port 0 to one that is free.
-    pub(crate) fn open<N: Net>(net: &N, port: u16, gateway: SocketAddr) -> io::Result<Wire> {
+    pub(crate) fn open(net: &HostRuntime, port: u16, gateway: SocketAddr) -> io::Result<Wire> {
         let own = SocketAddr::new(any_host(gateway), port);
         let socket = UdpSocket::bind(net, own)?;
-        socket.set_read_timeout(Some(Duration::from_millis(A_WHILE)))?;
+        socket.set_read_timeout(Some(Duration::from_millis(RECV_TIMEOUT_MS)))?;
         Ok(Wire { socket, gateway })
     }
 

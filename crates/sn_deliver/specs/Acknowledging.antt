@@ -25,14 +25,9 @@ use Rattle.sn_exchange.specs.Exchanges.{put_named, message_of, open_exchange}
 -- whether two phases of an exchange are the same
 abbrev pub same_phase : Phase → Phase → Bool
 same_phase Registering Registering = true
-same_phase Registering Published = false
-same_phase Registering Released = false
-same_phase Published Registering = false
 same_phase Published Published = true
-same_phase Published Released = false
-same_phase Released Registering = false
-same_phase Released Published = false
 same_phase Released Released = true
+same_phase phase other = false
 
 -- the exchange, if it is in this phase and has this message id
 abbrev pub if_awaits : Phase → ℕ → Option Exchange → Option Exchange
@@ -45,13 +40,13 @@ abbrev pub awaiting : Session → List Put → Phase → ℕ → Option Exchange
 awaiting s pending phase msg_id = if_awaits phase msg_id (open_exchange s [] pending)
 
 -- the message of an exchange, if it still waits
-abbrev pub put_of : List Put → Option Exchange → Option Put
-put_of pending None = None
-put_of pending (Some x) = put_named (message_of x) pending
+abbrev pub put_of_exchange : List Put → Option Exchange → Option Put
+put_of_exchange pending None = None
+put_of_exchange pending (Some x) = put_named (message_of x) pending
 
 -- the message of the open exchange, if that is in this phase and has this message id
 abbrev pub put_awaiting : Session → List Put → Phase → ℕ → Option Put
-put_awaiting s pending phase msg_id = put_of pending (awaiting s pending phase msg_id)
+put_awaiting s pending phase msg_id = put_of_exchange pending (awaiting s pending phase msg_id)
 
 -- and then the exchange is over, and the next message id stays
 abbrev pub over : Session → Drafted → Drafted
@@ -62,15 +57,13 @@ abbrev pub done : Session → Put → Drafted
 done s put = over s (acked (name_of put) nothing)
 
 -- the client now knows this id for the name, or no longer does
-abbrev pub told : TopicEntry → Bool → Drafted → Drafted
-told entry known d = changed (Register entry.id entry.name known) d
+abbrev pub id_told : TopicEntry → Bool → Drafted → Drafted
+id_told entry known d = changed (Register entry.id entry.name known) d
 
 -- the entry, if its topic is sent by an id of the session
 abbrev pub entry_by_kind : Option TopicEntry → TopicIdType → Option TopicEntry
 entry_by_kind entry kinds.Normal = entry
-entry_by_kind entry kinds.Predefined = None
-entry_by_kind entry kinds.Short = None
-entry_by_kind entry kinds.Reserved = None
+entry_by_kind entry kind = None
 
 -- the entry, if the topic's form is an id of the session
 abbrev pub entry_if_normal : Option TopicEntry → Option Form → Option TopicEntry
@@ -86,7 +79,7 @@ entry_published predefined s name =
 -- form the message is done with
 abbrev pub forgotten : Session → Put → Option TopicEntry → Drafted
 forgotten s put None = done s put
-forgotten s put (Some entry) = over s (told entry false nothing)
+forgotten s put (Some entry) = over s (id_told entry false nothing)
 
 -- PUBACK for this message: code 0 accepts it; 1 is congestion, and it waits; 2, invalid topic id,
 -- forgets the id; other codes refuse it
@@ -153,15 +146,15 @@ abbrev pub pubcomp : Session → List Put → ℕ → Drafted
 pubcomp s pending msg_id = pubcomp_of s (awaiting s pending Released msg_id)
 
 -- the client knows the id of the topic from now on
-abbrev pub registered : Session → Option TopicEntry → Drafted
-registered s None = nothing
-registered s (Some entry) = over s (told entry true nothing)
+abbrev pub id_known : Session → Option TopicEntry → Drafted
+id_known s None = nothing
+id_known s (Some entry) = over s (id_told entry true nothing)
 
 -- REGACK for this message: code 0 accepts the id; 1 is congestion, and nothing is done; other codes
 -- refuse it
 abbrev pub regack_put : Session → ℕ → Put → Drafted
 regack_put s code put =
-    if code == 0 then registered s (topic_named put.topic s.topics)
+    if code == 0 then id_known s (topic_named put.topic s.topics)
     else (if code == 1 then nothing else done s put)
 
 -- REGACK with this code for the message; nothing if nothing waits for it

@@ -13,7 +13,7 @@ use Rattle.sn_local.specs.Seen.{Seen}
 use Rattle.sn_local.specs.Bindings.{client_at}
 use Rattle.sn_local.specs.Locals.{Local}
 use Rattle.sn_plan.specs.Bound.{session_of}
-use Rattle.sn_plan.specs.Rows.{row_of, row_of_none, heard_row, turned_away}
+use Rattle.sn_plan.specs.Rows.{row_of, row_of_none, row_with_timer, turned_away}
 use Rattle.sn_exchange.specs.declared.peer.Peer.{Peer}
 use Rattle.sn_exchange.specs.Following.{peer_at}
 use Rattle.sn_publish.specs.Publishing.{publish, publish_unconnected, pubrel}
@@ -21,7 +21,7 @@ use Rattle.sn_deliver.specs.Acknowledging.{acknowledge}
 
 -- a row of the bound client c, which was heard of; Delivery follows
 abbrev pub served : List ℕ → ℕ → Drafted → Row
-served c now d = heard_row (Some c) now (row_of Delivery c d)
+served c now d = row_with_timer (Some c) now (row_of Delivery c d)
 
 -- PUBLISH of the bound client; without one the address is turned away
 abbrev pub publish_of : Entries → Seen → Addr → Option (List ℕ) → ℕ → ℕ → ℕ → List ℕ → ℕ → Row
@@ -33,11 +33,7 @@ publish_of predefined seen a (Some c) bits topic msg_id body now =
 abbrev pub publish_in_at : Entries → Seen → Local → Addr → ℕ → ℕ → ℕ → List ℕ → ℕ → Qos → Row
 publish_in_at predefined seen local a bits topic msg_id body now levels.MinusOne =
     row_of_none (publish_unconnected predefined seen bits topic body)
-publish_in_at predefined seen local a bits topic msg_id body now levels.Zero =
-    publish_of predefined seen a (client_at a local.bindings) bits topic msg_id body now
-publish_in_at predefined seen local a bits topic msg_id body now levels.One =
-    publish_of predefined seen a (client_at a local.bindings) bits topic msg_id body now
-publish_in_at predefined seen local a bits topic msg_id body now levels.Two =
+publish_in_at predefined seen local a bits topic msg_id body now level =
     publish_of predefined seen a (client_at a local.bindings) bits topic msg_id body now
 
 -- the row of PUBLISH (6.6 and 6.8)
@@ -55,17 +51,17 @@ abbrev pub pubrel_in : Seen → Local → Addr → ℕ → ℕ → Row
 pubrel_in seen local a msg_id now = pubrel_of seen a (client_at a local.bindings) msg_id now
 
 -- what an acknowledgement of the client does, by what the gateway sees of it
-abbrev pub acknowledged : Entries → Seen → Peer → Frame → Drafted
-acknowledged predefined seen peer frame =
+abbrev pub ack_draft : Entries → Seen → Peer → Frame → Drafted
+ack_draft predefined seen peer frame =
     acknowledge predefined peer (session_of seen peer.client) (seen.of peer.client).pending frame
 
 -- an acknowledgement of the bound client; without one the address is turned away
-abbrev pub ack_of : Entries → Seen → Addr → Option (List ℕ) → Frame → ℕ → Row
-ack_of predefined seen a None frame now = turned_away a
-ack_of predefined seen a (Some c) frame now =
-    served c now (acknowledged predefined seen (peer_at a c now) frame)
+abbrev pub ack_row : Entries → Seen → Addr → Option (List ℕ) → Frame → ℕ → Row
+ack_row predefined seen a None frame now = turned_away a
+ack_row predefined seen a (Some c) frame now =
+    served c now (ack_draft predefined seen (peer_at a c now) frame)
 
 -- the row of PUBACK, PUBREC, PUBCOMP and REGACK
 abbrev pub ack_in : Entries → Seen → Local → Addr → Frame → ℕ → Row
 ack_in predefined seen local a frame now =
-    ack_of predefined seen a (client_at a local.bindings) frame now
+    ack_row predefined seen a (client_at a local.bindings) frame now

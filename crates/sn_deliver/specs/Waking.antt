@@ -16,7 +16,7 @@ use Rattle.sn_local.specs.Seen.{Seen}
 use Rattle.sn_local.specs.Bindings.{client_at, is_stamp_of}
 use Rattle.sn_local.specs.Locals.{Local}
 use Rattle.sn_plan.specs.Bound.{bound_to}
-use Rattle.sn_plan.specs.Rows.{row_of, heard_row, turned_away}
+use Rattle.sn_plan.specs.Rows.{row_of, row_with_timer, turned_away}
 use Rattle.sn_exchange.specs.Exchanges.{open_exchange}
 
 -- the client is claimed: if another gateway owns it, it is taken over with the session as it is
@@ -28,25 +28,25 @@ abbrev pub has_nothing : Session → List Put → Bool
 has_nothing s pending = (length pending == 0) && is_none (open_exchange s [] pending)
 
 -- and then PINGRESP
-abbrev pub answered : Addr → Drafted → Drafted
-answered a d = sent a frames.PingResp d
+abbrev pub ping_answered : Addr → Drafted → Drafted
+ping_answered a d = sent a frames.PingResp d
 
 -- a client that is Asleep wakes, if there is something for it
 abbrev pub from_sleep : Addr → List ℕ → Session → Bool → Drafted → Row
 from_sleep a c s idle d =
-    if idle then row_of follows.Nothing c (answered a d)
+    if idle then row_of follows.Nothing c (ping_answered a d)
     else row_of follows.Resend c (changed (Presence Awake s.duration) d)
 
 -- a client that is Awake goes back to sleep, if there is nothing for it
 abbrev pub from_wake : Addr → List ℕ → Session → Bool → Drafted → Row
 from_wake a c s idle d =
-    if idle then row_of follows.Nothing c (answered a (changed (Presence Asleep s.duration) d))
+    if idle then row_of follows.Nothing c (ping_answered a (changed (Presence Asleep s.duration) d))
     else row_of follows.Resend c d
 
 -- By what the client is. One that is Active gets PINGRESP, and then what waits for it. One that is
 -- Disconnected or Lost cannot wake, and is turned away.
 abbrev pub woken_by : Addr → List ℕ → Session → Bool → Drafted → State → Row
-woken_by a c s idle d Active = row_of follows.Delivery c (answered a d)
+woken_by a c s idle d Active = row_of follows.Delivery c (ping_answered a d)
 woken_by a c s idle d Asleep = from_sleep a c s idle d
 woken_by a c s idle d Awake = from_wake a c s idle d
 woken_by a c s idle d Disconnected = turned_away a
@@ -65,11 +65,11 @@ woken g seen a c now = woken_if g a c (seen.of c) now (seen.of c).session
 -- PINGREQ without a client id: the bound client wakes; without one the address is turned away
 abbrev pub wake_of : ℕ → Seen → Addr → Option (List ℕ) → ℕ → Row
 wake_of g seen a None now = turned_away a
-wake_of g seen a (Some c) now = heard_row (Some c) now (woken g seen a c now)
+wake_of g seen a (Some c) now = row_with_timer (Some c) now (woken g seen a c now)
 
 -- PINGREQ: with the id of a client it wakes that client; without, the one that is bound to the
 -- address
 abbrev pub wake : ℕ → Seen → Local → Addr → List ℕ → ℕ → Row
 wake g seen local a c now =
     if length c == 0 then wake_of g seen a (client_at a local.bindings) now
-    else heard_row (client_at a local.bindings) now (woken g seen a c now)
+    else row_with_timer (client_at a local.bindings) now (woken g seen a c now)

@@ -8,7 +8,7 @@ ghost use Rattle.sn_deliver.specs.Acknowledging as spec;
 use super::drafting::finished;
 use octets::NoMemory;
 use rep_ops::Put;
-use sn_exchange::{Form, Peer, form_again, message_of, open_exchange, put_named, send};
+use sn_exchange::{Form, Peer, Visit, form_again, message_of, open_exchange, put_named, send};
 use sn_frame::{Frame, TopicIdType};
 use sn_local::LocalChange;
 use sn_plan::Draft;
@@ -64,8 +64,8 @@ fn awaiting(session: &Session, pending: &[Put], phase: Phase, msg_id: u16) -> Op
 }
 
 /// The message of an exchange.
-fn put_of(pending: &[Put], exchange: Option<Outbound>) -> Option<&Put>
-    ensures { option_copied result ≡ spec.put_of pending.now exchange }
+fn put_of_exchange(pending: &[Put], exchange: Option<Outbound>) -> Option<&Put>
+    ensures { option_copied result ≡ spec.put_of_exchange pending.now exchange }
 {
     match exchange {
         None => None,
@@ -82,7 +82,7 @@ fn put_awaiting<'a>(
 ) -> Option<&'a Put>
     ensures { option_copied result ≡ spec.put_awaiting session.now pending.now phase msg_id }
 {
-    put_of(pending, awaiting(session, pending, phase, msg_id))
+    put_of_exchange(pending, awaiting(session, pending, phase, msg_id))
 }
 
 /// And then the exchange is over.
@@ -107,7 +107,7 @@ fn done(session: &Session, put: &Put, draft: &mut Draft) -> Result<(), NoMemory>
 
 /// And then the client has this id for the name, or has it no more.
 fn tell(alloc: Global, entry: &TopicEntry, known: bool, draft: &mut Draft) -> Result<(), NoMemory>
-    ensures { OnOk result (draft.new ≡ spec.told entry.now known draft.old) }
+    ensures { OnOk result (draft.new ≡ spec.id_told entry.now known draft.old) }
 {
     draft.change(SessionOp::Register {
         id: entry.id,
@@ -224,19 +224,17 @@ fn puback_of(
 /// PUBACK.
 fn puback(
     alloc: Global,
-    predefined: &Predefined,
-    session: &Session,
-    pending: &[Put],
+    visit: &Visit<'_>,
     msg_id: u16,
     code: u8,
     draft: &mut Draft,
 ) -> Result<(), NoMemory>
     requires { draft.old ≡ nothing }
-    ensures { OnOk result (draft.new ≡ spec.puback predefined.now session.now pending.now
-        msg_id code) }
+    ensures { OnOk result (draft.new ≡ spec.puback visit.now.predefined.now visit.now.session.now
+        visit.now.pending.now msg_id code) }
 {
-    let put = put_awaiting(session, pending, Phase::Published, msg_id);
-    puback_of(alloc, predefined, session, code, put, draft)
+    let put = put_awaiting(visit.session, visit.pending, Phase::Published, msg_id);
+    puback_of(alloc, visit.predefined, visit.session, code, put, draft)
 }
 
 /// And then the PUBREL of the open exchange.
@@ -310,44 +308,35 @@ fn pubrec_again(
 /// PUBREC of this exchange, if there is one.
 fn pubrec_of(
     alloc: Global,
-    peer: &Peer,
-    session: &Session,
-    pending: &[Put],
+    visit: &Visit<'_>,
     msg_id: u16,
     exchange: Option<Outbound>,
     draft: &mut Draft,
 ) -> Result<(), NoMemory>
     requires { draft.old ≡ nothing }
-    ensures { OnOk result (draft.new ≡ spec.pubrec_of peer.now session.now pending.now
-        msg_id exchange) }
+    ensures { OnOk result (draft.new ≡ spec.pubrec_of visit.now.peer.now visit.now.session.now
+        visit.now.pending.now msg_id exchange) }
 {
     match exchange {
         None => {
-            let released = awaiting(session, pending, Phase::Released, msg_id);
-            pubrec_again(alloc, peer, msg_id, released, draft)
+            let released = awaiting(visit.session, visit.pending, Phase::Released, msg_id);
+            pubrec_again(alloc, visit.peer, msg_id, released, draft)
         }
         Some(exchange) => {
-            released(session, exchange, draft)?;
-            send_pubrel(alloc, peer, msg_id, draft)
+            released(visit.session, exchange, draft)?;
+            send_pubrel(alloc, visit.peer, msg_id, draft)
         }
     }
 }
 
 /// PUBREC. PUBREL is always the answer.
-fn pubrec(
-    alloc: Global,
-    peer: &Peer,
-    session: &Session,
-    pending: &[Put],
-    msg_id: u16,
-    draft: &mut Draft,
-) -> Result<(), NoMemory>
+fn pubrec(alloc: Global, visit: &Visit<'_>, msg_id: u16, draft: &mut Draft) -> Result<(), NoMemory>
     requires { draft.old ≡ nothing }
-    ensures { OnOk result (draft.new ≡ spec.pubrec peer.now session.now
-        pending.now msg_id) }
+    ensures { OnOk result (draft.new ≡ spec.pubrec visit.now.peer.now visit.now.session.now
+        visit.now.pending.now msg_id) }
 {
-    let exchange = awaiting_pubrec(session, pending, msg_id);
-    pubrec_of(alloc, peer, session, pending, msg_id, exchange, draft)
+    let exchange = awaiting_pubrec(visit.session, visit.pending, msg_id);
+    pubrec_of(alloc, visit, msg_id, exchange, draft)
 }
 
 /// PUBCOMP of this exchange, if there is one.
@@ -380,14 +369,14 @@ fn pubcomp(
 }
 
 /// The client knows the id of the topic from now on.
-fn registered(
+fn id_known(
     alloc: Global,
     session: &Session,
     entry: Option<&TopicEntry>,
     draft: &mut Draft,
 ) -> Result<(), NoMemory>
     requires { draft.old ≡ nothing }
-    ensures { OnOk result (draft.new ≡ spec.registered session.now
+    ensures { OnOk result (draft.new ≡ spec.id_known session.now
         (option_copied entry.entry)) }
 {
     match entry {
@@ -411,7 +400,7 @@ fn regack_put(
     ensures { OnOk result (draft.new ≡ spec.regack_put session.now code put.now) }
 {
     if code == 0 {
-        return registered(alloc, session, session.topic_named(&put.topic), draft);
+        return id_known(alloc, session, session.topic_named(&put.topic), draft);
     }
     if code == 1 {
         return Ok(());
@@ -456,25 +445,20 @@ fn regack(
 /// Writes an acknowledgement into a draft of nothing.
 fn write_acknowledgement(
     alloc: Global,
-    predefined: &Predefined,
-    peer: &Peer,
-    session: &Session,
-    pending: &[Put],
+    visit: &Visit<'_>,
     frame: &Frame,
     draft: &mut Draft,
 ) -> Result<(), NoMemory>
     requires { draft.old ≡ nothing }
-    ensures { OnOk result (draft.new ≡ spec.acknowledge predefined.now peer.now session.now
-        pending.now frame.now) }
+    ensures { OnOk result (draft.new ≡ spec.acknowledge visit.now.predefined.now
+        visit.now.peer.now visit.now.session.now visit.now.pending.now frame.now) }
 {
     match frame {
-        Frame::PubAck { msg_id, code, .. } => {
-            puback(alloc, predefined, session, pending, *msg_id, *code, draft)
-        }
-        Frame::PubRec { msg_id } => pubrec(alloc, peer, session, pending, *msg_id, draft),
-        Frame::PubComp { msg_id } => pubcomp(session, pending, *msg_id, draft),
+        Frame::PubAck { msg_id, code, .. } => puback(alloc, visit, *msg_id, *code, draft),
+        Frame::PubRec { msg_id } => pubrec(alloc, visit, *msg_id, draft),
+        Frame::PubComp { msg_id } => pubcomp(visit.session, visit.pending, *msg_id, draft),
         Frame::RegAck { msg_id, code, .. } => {
-            regack(alloc, session, pending, *msg_id, *code, draft)
+            regack(alloc, visit.session, visit.pending, *msg_id, *code, draft)
         }
         _ => Ok(()),
     }
@@ -482,18 +466,11 @@ fn write_acknowledgement(
 
 /// An acknowledgement of a connected client: PUBACK, PUBREC, PUBCOMP or REGACK. What nothing waits
 /// for does nothing, but PUBREC is always answered.
-pub fn acknowledge(
-    alloc: Global,
-    predefined: &Predefined,
-    peer: &Peer,
-    session: &Session,
-    pending: &[Put],
-    frame: &Frame,
-) -> Result<Draft, NoMemory>
-    ensures { IfOk result (λ draft. draft ≡ spec.acknowledge predefined.now peer.now session.now
-        pending.now frame.now) }
+pub fn acknowledge(alloc: Global, visit: &Visit<'_>, frame: &Frame) -> Result<Draft, NoMemory>
+    ensures { IfOk result (λ draft. draft ≡ spec.acknowledge visit.now.predefined.now
+        visit.now.peer.now visit.now.session.now visit.now.pending.now frame.now) }
 {
     let mut draft = Draft::new(alloc);
-    let done = write_acknowledgement(alloc, predefined, peer, session, pending, frame, &mut draft);
+    let done = write_acknowledgement(alloc, visit, frame, &mut draft);
     finished(draft, done)
 }

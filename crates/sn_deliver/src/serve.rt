@@ -1,112 +1,55 @@
 //! Publications and acknowledgements as rows.
 
 ghost use Rattle.std.specs.Prelude.{◌≡◌, Some, IfOk};
-ghost use Rattle.sn_local.specs.Seen.{seen_of};
 ghost use Rattle.sn_local.specs.Bindings as bindings;
-ghost use Rattle.sn_plan.specs.Bound.{session_of};
-ghost use Rattle.sn_publish.specs.Publishing as publishing;
-ghost use Rattle.sn_deliver.specs.Serving.{publish_of, pubrel_of, ack_of};
+ghost use Rattle.sn_plan.specs.Scenes.{seen_in};
+ghost use Rattle.sn_deliver.specs.Serving.{publish_of, pubrel_of, ack_row};
 ghost use Rattle.sn_deliver.specs.Serving as spec;
 
 use super::acknowledging::acknowledge;
-use octets::{NoMemory, Octets};
+use octets::NoMemory;
 use rep_model::Replica;
 use rep_ops::ClientId;
-use sn_exchange::{Peer, peer_at};
-use sn_frame::{Flags, Frame, Qos};
-use sn_local::{Addr, Config, Dialogs};
-use sn_plan::{Draft, Follow, Row, heard_row, session_or, turn_away, unseen, view_or};
-use sn_publish::{publish, publish_unconnected, pubrel};
+use sn_exchange::{Peer, Visit, peer_at};
+use sn_frame::{Frame, Qos};
+use sn_plan::{Draft, Row, Scene, bound_row, session_in, session_or, turn_away, unseen, view_or};
+use sn_publish::{Publication, publish, publish_unconnected, pubrel};
 use sn_session::Session;
 use std::alloc::Global;
-
-/// A row of a bound client: it was heard of, and Delivery follows.
-fn served(alloc: Global, client: &ClientId, now: u64, draft: Draft) -> Result<Row, NoMemory>
-    ensures { IfOk result (λ row. row ≡ spec.served client.now now draft) }
-{
-    let row = Row::new(alloc, Follow::Delivery, client, draft)?;
-    heard_row(alloc, Some(client), now, row)
-}
-
-/// What a PUBLISH of a client does, by its session.
-fn publish_draft<R: Replica>(
-    alloc: Global,
-    config: &Config,
-    replica: &R,
-    from: Addr,
-    client: &ClientId,
-    flags: Flags,
-    topic: u16,
-    msg_id: u16,
-    body: &Octets,
-) -> Result<Draft, NoMemory>
-    ensures { IfOk result (λ draft. draft ≡ publishing.publish config.now.predefined
-        (seen_of (R.kept replica.now)) from (session_of (seen_of (R.kept replica.now)) client.now)
-        flags.bits topic msg_id body.now) }
-{
-    let empty = Session::empty(alloc);
-    let session = session_or(replica, client, &empty);
-    let draft = publish(
-        alloc,
-        &config.predefined,
-        replica,
-        from,
-        session,
-        flags,
-        topic,
-        msg_id,
-        body,
-    );
-    drop(empty);
-    draft
-}
 
 /// A PUBLISH of a bound client.
 fn publish_bound<R: Replica>(
     alloc: Global,
-    config: &Config,
-    replica: &R,
-    from: Addr,
+    scene: &Scene<'_, R>,
     client: &ClientId,
-    flags: Flags,
-    topic: u16,
-    msg_id: u16,
-    body: &Octets,
-    now: u64,
+    publication: &Publication<'_>,
 ) -> Result<Row, NoMemory>
-    ensures { IfOk result (λ row. row ≡ publish_of config.now.predefined
-        (seen_of (R.kept replica.now)) from (Some client.now) flags.bits topic msg_id
-        body.now now) }
+    ensures { IfOk result (λ row. row ≡ publish_of scene.now.config.now.predefined
+        (seen_in R.kept scene.now) scene.now.from (Some client.now) publication.now.flags.bits
+        publication.now.topic publication.now.msg_id publication.now.body.now scene.now.moment) }
 {
-    let draft = publish_draft(
-        alloc, config, replica, from, client, flags, topic, msg_id, body,
-    )?;
-    served(alloc, client, now, draft)
+    let empty = Session::empty(alloc);
+    let session = session_or(scene.replica, client, &empty);
+    let draft = publish(alloc, scene, session, publication);
+    drop(empty);
+    bound_row(alloc, client, scene.moment, draft?)
 }
 
 /// A PUBLISH that asks for a connection.
 fn publish_connected<R: Replica>(
     alloc: Global,
-    config: &Config,
-    replica: &R,
-    dialogs: &Dialogs,
-    from: Addr,
-    flags: Flags,
-    topic: u16,
-    msg_id: u16,
-    body: &Octets,
-    now: u64,
+    scene: &Scene<'_, R>,
+    publication: &Publication<'_>,
 ) -> Result<Row, NoMemory>
-    ensures { IfOk result (λ row. row ≡ publish_of config.now.predefined
-        (seen_of (R.kept replica.now)) from
-        (bindings.client_at from dialogs.now.local.bindings) flags.bits
-        topic msg_id body.now now) }
+    ensures { IfOk result (λ row. row ≡ publish_of scene.now.config.now.predefined
+        (seen_in R.kept scene.now) scene.now.from
+        (bindings.client_at scene.now.from scene.now.dialogs.now.local.bindings)
+        publication.now.flags.bits publication.now.topic publication.now.msg_id
+        publication.now.body.now scene.now.moment) }
 {
-    match dialogs.client_at(from) {
-        None => turn_away(alloc, from),
-        Some(client) => publish_bound(
-            alloc, config, replica, from, client, flags, topic, msg_id, body, now,
-        ),
+    match scene.dialogs.client_at(scene.from) {
+        None => turn_away(alloc, scene.from),
+        Some(client) => publish_bound(alloc, scene, client, publication),
     }
 }
 
@@ -114,95 +57,76 @@ fn publish_connected<R: Replica>(
 /// service -1 the client needs no connection, and nothing follows.
 pub fn publish_in<R: Replica>(
     alloc: Global,
-    config: &Config,
-    replica: &R,
-    dialogs: &Dialogs,
-    from: Addr,
-    flags: Flags,
-    topic: u16,
-    msg_id: u16,
-    body: &Octets,
-    now: u64,
+    scene: &Scene<'_, R>,
+    publication: &Publication<'_>,
 ) -> Result<Row, NoMemory>
-    ensures { IfOk result (λ row. row ≡ spec.publish_in config.now.predefined
-        (seen_of (R.kept replica.now)) dialogs.now.local from flags.bits topic msg_id
-        body.now now) }
+    ensures { IfOk result (λ row. row ≡ spec.publish_in scene.now.config.now.predefined
+        (seen_in R.kept scene.now) scene.now.dialogs.now.local scene.now.from
+        publication.now.flags.bits publication.now.topic publication.now.msg_id
+        publication.now.body.now scene.now.moment) }
 {
-    match flags.qos() {
-        Qos::MinusOne => Ok(Row::of_none(publish_unconnected(
-            alloc,
-            &config.predefined,
-            replica,
-            flags,
-            topic,
-            body,
-        )?)),
-        Qos::Zero | Qos::One | Qos::Two => publish_connected(
-            alloc, config, replica, dialogs, from, flags, topic, msg_id, body, now,
-        ),
+    match publication.flags.qos() {
+        Qos::MinusOne => {
+            let draft = publish_unconnected(alloc, scene, publication)?;
+            Ok(Row::of_none(draft))
+        }
+        Qos::Zero | Qos::One | Qos::Two => publish_connected(alloc, scene, publication),
     }
 }
 
 /// A PUBREL of a bound client.
 fn pubrel_bound<R: Replica>(
     alloc: Global,
-    replica: &R,
-    from: Addr,
+    scene: &Scene<'_, R>,
     client: &ClientId,
     msg_id: u16,
-    now: u64,
 ) -> Result<Row, NoMemory>
-    ensures { IfOk result (λ row. row ≡ pubrel_of (seen_of (R.kept replica.now)) from
-        (Some client.now) msg_id now) }
+    ensures { IfOk result (λ row. row ≡ pubrel_of (seen_in R.kept scene.now) scene.now.from
+        (Some client.now) msg_id scene.now.moment) }
 {
     let empty = Session::empty(alloc);
-    let session = session_or(replica, client, &empty);
-    let draft = pubrel(alloc, from, session, msg_id);
+    let session = session_or(scene.replica, client, &empty);
+    let draft = pubrel(alloc, scene.from, session, msg_id);
     drop(empty);
-    served(alloc, client, now, draft?)
+    bound_row(alloc, client, scene.moment, draft?)
 }
 
 /// PUBREL: a bound client will not send the message of this id again.
 pub fn pubrel_in<R: Replica>(
     alloc: Global,
-    replica: &R,
-    dialogs: &Dialogs,
-    from: Addr,
+    scene: &Scene<'_, R>,
     msg_id: u16,
-    now: u64,
 ) -> Result<Row, NoMemory>
-    ensures { IfOk result (λ row. row ≡ spec.pubrel_in (seen_of (R.kept replica.now))
-        dialogs.now.local from msg_id now) }
+    ensures { IfOk result (λ row. row ≡ spec.pubrel_in (seen_in R.kept scene.now)
+        scene.now.dialogs.now.local scene.now.from msg_id scene.now.moment) }
 {
-    match dialogs.client_at(from) {
-        None => turn_away(alloc, from),
-        Some(client) => pubrel_bound(alloc, replica, from, client, msg_id, now),
+    match scene.dialogs.client_at(scene.from) {
+        None => turn_away(alloc, scene.from),
+        Some(client) => pubrel_bound(alloc, scene, client, msg_id),
     }
 }
 
 /// What an acknowledgement of the client does, by its view.
-fn acknowledged<R: Replica>(
+fn ack_draft<R: Replica>(
     alloc: Global,
-    config: &Config,
-    replica: &R,
+    scene: &Scene<'_, R>,
     peer: &Peer,
     frame: &Frame,
 ) -> Result<Draft, NoMemory>
-    ensures { IfOk result (λ draft. draft ≡ spec.acknowledged config.now.predefined
-        (seen_of (R.kept replica.now)) peer.now frame.now) }
+    ensures { IfOk result (λ draft. draft ≡ spec.ack_draft scene.now.config.now.predefined
+        (seen_in R.kept scene.now) peer.now frame.now) }
 {
     let empty = Session::empty(alloc);
     let nobody = unseen(alloc);
-    let session = session_or(replica, &peer.client, &empty);
-    let view = view_or(replica, &peer.client, &nobody);
-    let draft = acknowledge(
-        alloc,
-        &config.predefined,
+    let view = view_or(scene.replica, &peer.client, &nobody);
+    let session = session_in(view, &empty);
+    let visit = Visit {
+        predefined: &scene.config.predefined,
         peer,
         session,
-        view.pending.as_slice(),
-        frame,
-    );
+        pending: view.pending.as_slice(),
+    };
+    let draft = acknowledge(alloc, &visit, frame);
     drop(empty);
     drop(nobody);
     draft
@@ -211,36 +135,30 @@ fn acknowledged<R: Replica>(
 /// An acknowledgement of a bound client.
 fn ack_bound<R: Replica>(
     alloc: Global,
-    config: &Config,
-    replica: &R,
-    from: Addr,
+    scene: &Scene<'_, R>,
     client: &ClientId,
     frame: &Frame,
-    now: u64,
 ) -> Result<Row, NoMemory>
-    ensures { IfOk result (λ row. row ≡ ack_of config.now.predefined
-        (seen_of (R.kept replica.now)) from (Some client.now) frame.now now) }
+    ensures { IfOk result (λ row. row ≡ ack_row scene.now.config.now.predefined
+        (seen_in R.kept scene.now) scene.now.from (Some client.now) frame.now scene.now.moment) }
 {
-    let peer = peer_at(alloc, from, client, now)?;
-    let draft = acknowledged(alloc, config, replica, &peer, frame)?;
-    served(alloc, client, now, draft)
+    let peer = peer_at(alloc, scene.from, client, scene.moment)?;
+    let draft = ack_draft(alloc, scene, &peer, frame)?;
+    bound_row(alloc, client, scene.moment, draft)
 }
 
 /// PUBACK, PUBREC, PUBCOMP or REGACK: a bound client answers a frame of the open exchange.
 pub fn ack_in<R: Replica>(
     alloc: Global,
-    config: &Config,
-    replica: &R,
-    dialogs: &Dialogs,
-    from: Addr,
+    scene: &Scene<'_, R>,
     frame: &Frame,
-    now: u64,
 ) -> Result<Row, NoMemory>
-    ensures { IfOk result (λ row. row ≡ spec.ack_in config.now.predefined
-        (seen_of (R.kept replica.now)) dialogs.now.local from frame.now now) }
+    ensures { IfOk result (λ row. row ≡ spec.ack_in scene.now.config.now.predefined
+        (seen_in R.kept scene.now) scene.now.dialogs.now.local scene.now.from frame.now
+        scene.now.moment) }
 {
-    match dialogs.client_at(from) {
-        None => turn_away(alloc, from),
-        Some(client) => ack_bound(alloc, config, replica, from, client, frame, now),
+    match scene.dialogs.client_at(scene.from) {
+        None => turn_away(alloc, scene.from),
+        Some(client) => ack_bound(alloc, scene, client, frame),
     }
 }

@@ -5,13 +5,13 @@ ghost use Rattle.std.specs.Prelude.{◌≡◌, ◌≤◌, length, IfOk, OnOk};
 ghost use Rattle.std.specs.Option.{option_copied};
 ghost use Rattle.rep_model.specs.Views.{view};
 ghost use Rattle.octets.specs.declared.client_id.TheConstants.{MAX_CLIENT_ID};
-ghost use Rattle.sn_local.specs.Seen.{seen_of};
 ghost use Rattle.sn_plan.specs.declared.row.Follow.TheVariants.{Delivery};
 ghost use Rattle.sn_session.specs.declared.change.SessionOp.TheVariants.{Presence as SetPresence};
 ghost use Rattle.sn_plan.specs.Bound.{bound_to};
 ghost use Rattle.sn_plan.specs.Drafts.{nothing, changed};
 ghost use Rattle.sn_plan.specs.Rows.{row_of};
 ghost use Rattle.sn_plan.specs.Rows as rows;
+ghost use Rattle.sn_plan.specs.Scenes.{seen_in};
 ghost use Rattle.rep_op.specs.ClientIds.{IsClientId};
 ghost use Rattle.sn_deliver.specs.Waking as spec;
 
@@ -21,29 +21,27 @@ use rep_model::{ClientView, Replica};
 use rep_ops::{ClientId, OpsFault, Put};
 use sn_exchange::open_exchange;
 use sn_frame::Frame;
-use sn_local::{Addr, Config, Dialogs, is_stamp_of};
-use sn_plan::{Draft, Follow, Row, bind_to, heard_row, turn_away, unseen, view_or};
+use sn_local::{Addr, is_stamp_of};
+use sn_plan::{Draft, Follow, Row, Scene, bind_to, row_with_timer, turn_away, unseen, view_or};
 use sn_session::{Presence, Session, SessionOp};
 use std::alloc::Global;
 
 /// The client is claimed and bound to an address: where another gateway owns it, it is taken over
 /// with the session as it is.
-fn claimed(
+fn claimed<R: Replica>(
     alloc: Global,
-    gateway: u8,
+    scene: &Scene<'_, R>,
+    client: &ClientId,
     view: &ClientView,
     session: &Session,
-    to: Addr,
-    client: &ClientId,
-    now: u64,
 ) -> Result<Draft, NoMemory>
-    ensures { IfOk result (λ draft. draft ≡ bound_to to client.now now
-        (spec.claimed gateway view.now session.now)) }
+    ensures { IfOk result (λ draft. draft ≡ bound_to scene.now.from client.now scene.now.moment
+        (spec.claimed scene.now.config.now.gateway view.now session.now)) }
 {
     let mut draft = Draft::new(alloc);
-    let done = write_claim(alloc, gateway, view, session, &mut draft);
+    let done = write_claim(alloc, scene.config.gateway, view, session, &mut draft);
     let mut draft = finished(draft, done)?;
-    let done = bind_to(alloc, &mut draft, to, client, now);
+    let done = bind_to(alloc, &mut draft, scene.from, client, scene.moment);
     finished(draft, done)
 }
 
@@ -73,7 +71,7 @@ fn has_nothing(session: &Session, pending: &[Put]) -> bool
 
 /// And then PINGRESP.
 fn answer(alloc: Global, to: Addr, draft: &mut Draft) -> Result<(), NoMemory>
-    ensures { OnOk result (draft.new ≡ spec.answered to draft.old) }
+    ensures { OnOk result (draft.new ≡ spec.ping_answered to draft.old) }
 {
     match draft.send(alloc, to, Frame::PingResp) {
         Ok(()) => Ok(()),
@@ -82,8 +80,8 @@ fn answer(alloc: Global, to: Addr, draft: &mut Draft) -> Result<(), NoMemory>
 }
 
 /// The draft, with PINGRESP.
-fn answered(alloc: Global, to: Addr, draft: Draft) -> Result<Draft, NoMemory>
-    ensures { IfOk result (λ made. made ≡ spec.answered to draft) }
+fn ping_answered(alloc: Global, to: Addr, draft: Draft) -> Result<Draft, NoMemory>
+    ensures { IfOk result (λ made. made ≡ spec.ping_answered to draft) }
 {
     let mut draft = draft;
     let done = answer(alloc, to, &mut draft);
@@ -118,7 +116,7 @@ fn from_sleep(
     ensures { IfOk result (λ row. row ≡ spec.from_sleep to client.now session.now idle draft) }
 {
     if idle {
-        let draft = answered(alloc, to, draft)?;
+        let draft = ping_answered(alloc, to, draft)?;
         return Row::new(alloc, Follow::Nothing, client, draft);
     }
     let draft = in_presence(session, Presence::Awake, draft)?;
@@ -140,15 +138,15 @@ fn from_wake(
         return Row::new(alloc, Follow::Resend, client, draft);
     }
     let draft = in_presence(session, Presence::Asleep, draft)?;
-    let draft = answered(alloc, to, draft)?;
+    let draft = ping_answered(alloc, to, draft)?;
     Row::new(alloc, Follow::Nothing, client, draft)
 }
 
 /// A client that is Active gets PINGRESP, and then what waits for it.
 fn from_activity(alloc: Global, to: Addr, client: &ClientId, draft: Draft) -> Result<Row, NoMemory>
-    ensures { IfOk result (λ row. row ≡ row_of Delivery client.now (spec.answered to draft)) }
+    ensures { IfOk result (λ row. row ≡ row_of Delivery client.now (spec.ping_answered to draft)) }
 {
-    let draft = answered(alloc, to, draft)?;
+    let draft = ping_answered(alloc, to, draft)?;
     Row::new(alloc, Follow::Delivery, client, draft)
 }
 
@@ -176,23 +174,21 @@ fn woken_by(
 }
 
 /// What waking does with the session of the client, if there is one.
-fn woken_view(
+fn woken_view<R: Replica>(
     alloc: Global,
-    gateway: u8,
-    to: Addr,
+    scene: &Scene<'_, R>,
     client: &ClientId,
     view: &ClientView,
-    now: u64,
 ) -> Result<Row, NoMemory>
-    ensures { IfOk result (λ row. row ≡ spec.woken_if gateway to client.now view.now now
-        view.now.session) }
+    ensures { IfOk result (λ row. row ≡ spec.woken_if scene.now.config.now.gateway scene.now.from
+        client.now view.now scene.now.moment view.now.session) }
 {
     match &view.session {
-        None => turn_away(alloc, to),
+        None => turn_away(alloc, scene.from),
         Some(session) => {
-            let draft = claimed(alloc, gateway, view, session, to, client, now)?;
+            let draft = claimed(alloc, scene, client, view, session)?;
             let idle = has_nothing(session, view.pending.as_slice());
-            woken_by(alloc, to, client, session, idle, draft)
+            woken_by(alloc, scene.from, client, session, idle, draft)
         }
     }
 }
@@ -200,18 +196,15 @@ fn woken_view(
 /// The client wakes at this address and gateway: it is claimed and bound.
 fn woken<R: Replica>(
     alloc: Global,
-    gateway: u8,
-    replica: &R,
-    to: Addr,
+    scene: &Scene<'_, R>,
     client: &ClientId,
-    now: u64,
 ) -> Result<Row, NoMemory>
-    ensures { IfOk result (λ row. row ≡ spec.woken gateway (seen_of (R.kept replica.now)) to
-        client.now now) }
+    ensures { IfOk result (λ row. row ≡ spec.woken scene.now.config.now.gateway
+        (seen_in R.kept scene.now) scene.now.from client.now scene.now.moment) }
 {
     let nobody = unseen(alloc);
-    let view = view_or(replica, client, &nobody);
-    let row = woken_view(alloc, gateway, to, client, view, now);
+    let view = view_or(scene.replica, client, &nobody);
+    let row = woken_view(alloc, scene, client, view);
     drop(nobody);
     row
 }
@@ -219,20 +212,17 @@ fn woken<R: Replica>(
 /// A PINGREQ without a client.
 fn wake_bound<R: Replica>(
     alloc: Global,
-    gateway: u8,
-    replica: &R,
-    from: Addr,
+    scene: &Scene<'_, R>,
     bound: Option<&ClientId>,
-    now: u64,
 ) -> Result<Row, NoMemory>
-    ensures { IfOk result (λ row. row ≡ spec.wake_of gateway (seen_of (R.kept replica.now)) from
-        (option_copied bound.entry) now) }
+    ensures { IfOk result (λ row. row ≡ spec.wake_of scene.now.config.now.gateway
+        (seen_in R.kept scene.now) scene.now.from (option_copied bound.entry) scene.now.moment) }
 {
     match bound {
-        None => turn_away(alloc, from),
+        None => turn_away(alloc, scene.from),
         Some(client) => {
-            let row = woken(alloc, gateway, replica, from, client, now)?;
-            heard_row(alloc, Some(client), now, row)
+            let row = woken(alloc, scene, client)?;
+            row_with_timer(alloc, Some(client), scene.moment, row)
         }
     }
 }
@@ -240,20 +230,18 @@ fn wake_bound<R: Replica>(
 /// A PINGREQ with the id of a client.
 fn wake_client<R: Replica>(
     alloc: Global,
-    gateway: u8,
-    replica: &R,
-    from: Addr,
+    scene: &Scene<'_, R>,
     bound: Option<&ClientId>,
     client: &[u8],
-    now: u64,
 ) -> Result<Row, NoMemory>
     requires { IsClientId client.now }
-    ensures { IfOk result (λ row. row ≡ rows.heard_row (option_copied bound.entry) now
-        (spec.woken gateway (seen_of (R.kept replica.now)) from client.now now)) }
+    ensures { IfOk result (λ row. row ≡ rows.row_with_timer (option_copied bound.entry)
+        scene.now.moment (spec.woken scene.now.config.now.gateway (seen_in R.kept scene.now)
+        scene.now.from client.now scene.now.moment)) }
 {
     let client = client_id(alloc, client)?;
-    let row = woken(alloc, gateway, replica, from, &client, now)?;
-    heard_row(alloc, bound, now, row)
+    let row = woken(alloc, scene, &client)?;
+    row_with_timer(alloc, bound, scene.moment, row)
 }
 
 /// The client of this name. It has the size that a name has, so nothing but memory can be wanting.
@@ -270,23 +258,16 @@ pub fn client_id(alloc: Global, octets: &[u8]) -> Result<ClientId, NoMemory>
 
 /// PINGREQ: with the id of a client it wakes that client, which is claimed from the gateway that
 /// has it; without, the one that is bound to the address.
-pub fn wake<R: Replica>(
-    alloc: Global,
-    config: &Config,
-    replica: &R,
-    dialogs: &Dialogs,
-    from: Addr,
-    client: &[u8],
-    now: u64,
-) -> Result<Row, NoMemory>
+pub fn wake<R: Replica>(alloc: Global, scene: &Scene<'_, R>, client: &[u8]) -> Result<Row, NoMemory>
     requires { length client.now ≤ MAX_CLIENT_ID }
-    ensures { IfOk result (λ row. row ≡ spec.wake config.now.gateway
-        (seen_of (R.kept replica.now)) dialogs.now.local from client.now now) }
+    ensures { IfOk result (λ row. row ≡ spec.wake scene.now.config.now.gateway
+        (seen_in R.kept scene.now) scene.now.dialogs.now.local scene.now.from client.now
+        scene.now.moment) }
 {
-    let bound = dialogs.client_at(from);
+    let bound = scene.dialogs.client_at(scene.from);
     if client.is_empty() {
-        wake_bound(alloc, config.gateway, replica, from, bound, now)
+        wake_bound(alloc, scene, bound)
     } else {
-        wake_client(alloc, config.gateway, replica, from, bound, client, now)
+        wake_client(alloc, scene, bound, client)
     }
 }

@@ -31,8 +31,8 @@ abbrev pub Stop : Type 0
 Stop = Bool × Drafted
 
 -- a new exchange for the message under the next message id, with its first frame
-abbrev pub begun : Peer → Session → Put → Phase → Frame → Drafted → Drafted
-begun peer s put phase frame d =
+abbrev pub exchange_begun : Peer → Session → Put → Phase → Frame → Drafted → Drafted
+exchange_begun peer s put phase frame d =
     moved (Sent peer.client peer.moment)
     (sent peer.address frame
     (changed (Outbound (Some
@@ -62,7 +62,7 @@ abbrev pub register_first : Peer → Session → Put → Option ToldId → Draft
 register_first peer s put None d = (false, acked (name_of put) d)
 register_first peer s put (Some told) d = (
   true,
-  begun peer s put Registering (frames.Register told.id s.next_id put.topic)
+  exchange_begun peer s put Registering (frames.Register told.id s.next_id put.topic)
       (changed_if told.change d),
 )
 
@@ -72,7 +72,7 @@ abbrev pub publish_now : Peer → Session → Put → Form → Drafted → Stop
 publish_now peer s put form d =
     if put.qos == 0
     then (false, acked (name_of put) (sent peer.address (publication false put 0 form) d))
-    else (true, begun peer s put Published (publication false put s.next_id form) d)
+    else (true, exchange_begun peer s put Published (publication false put s.next_id form) d)
 
 -- a message by the form of its topic; without a form the topic is registered first
 abbrev pub deliver_by : Peer → Session → Put → Option Form → Drafted → Stop

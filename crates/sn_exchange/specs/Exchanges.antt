@@ -3,7 +3,7 @@
 use Rattle.std.specs.Prelude.{ℕ, ◌==◌, Bool, true, false, ◌&&◌, not, if◌then◌else◌, nat_lt, is_some, List, find, filter, Option, Some, None}
 use Rattle.std.specs.List.{list_any}
 use Rattle.sn_session.specs.declared.presence.Presence.{Presence}
-use Rattle.sn_session.specs.declared.presence.Presence.TheVariants.{Active, Asleep, Awake, Disconnected, Lost}
+use Rattle.sn_session.specs.declared.presence.Presence.TheVariants.{Active, Awake}
 use Rattle.sn_session.specs.declared.outbound.Outbound.{Outbound}
 use Rattle.sn_session.specs.declared.outbound.Phase.{Phase}
 use Rattle.sn_session.specs.declared.outbound.Phase.TheVariants.{Registering, Published, Released}
@@ -63,15 +63,10 @@ open_exchange s acks pending = if_open s acks pending s.outbound
 -- a client that is sent its messages: Active or Awake
 abbrev pub is_served : Presence → Bool
 is_served Active = true
-is_served Asleep = false
 is_served Awake = true
-is_served Disconnected = false
-is_served Lost = false
+is_served presence = false
 
 -- whether the client is Awake: it sleeps, and takes its messages in between (section 6.14)
 abbrev pub is_awake : Presence → Bool
-is_awake Active = false
-is_awake Asleep = false
 is_awake Awake = true
-is_awake Disconnected = false
-is_awake Lost = false
+is_awake presence = false

@@ -23,9 +23,9 @@ known_form None = None
 known_form (Some entry) = if entry.known then Some (by_entry entry) else None
 
 -- by the name itself, if it has two octets
-abbrev pub short_form : List ℕ → Option Form
-short_form (high ∷ low ∷ []) = Some (record { kind = kinds.Short; topic = high * 256 + low })
-short_form name = None
+abbrev pub short_name_form : List ℕ → Option Form
+short_name_form (high ∷ low ∷ []) = Some (record { kind = kinds.Short; topic = high * 256 + low })
+short_name_form name = None
 
 -- by this predefined id
 abbrev pub by_predefined : ℕ → Form
@@ -40,7 +40,7 @@ predefined_form predefined name = option_map by_predefined (least (ids_of name p
 abbrev pub form_of : Entries → Session → List ℕ → Option Form
 form_of predefined s name =
     option_or (known_form (topic_named name s.topics))
-    (option_or (short_form name) (predefined_form predefined name))
+    (option_or (short_name_form name) (predefined_form predefined name))
 
 -- how the client knows the topic once the PUBLISH was sent: also by the id of an entry that it may
 -- have forgotten since

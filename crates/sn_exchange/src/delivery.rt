@@ -8,21 +8,21 @@ ghost use Rattle.sn_frame.specs.Grammar.{total_of};
 ghost use Rattle.sn_plan.specs.Drafts.{sent};
 ghost use Rattle.sn_exchange.specs.Forms as forms;
 ghost use Rattle.sn_exchange.specs.Exchanges.{left};
-ghost use Rattle.sn_exchange.specs.Delivery.{begun};
+ghost use Rattle.sn_exchange.specs.Delivery.{exchange_begun};
 ghost use Rattle.sn_exchange.specs.Delivery as spec;
 
 use super::exchange::{
     is_awake, is_done, is_left_in_turn, is_served, name_of, open_exchange, session_after,
 };
 use super::form::{Form, form_of, publication};
-use super::peer::Peer;
+use super::peer::{Peer, Visit};
 use octets::{NoMemory, Octets};
 use rep_ops::Put;
 use sn_frame::Frame;
 use sn_local::LocalChange;
 use sn_plan::Draft;
 use sn_session::{Outbound, Phase, Presence, Session, SessionOp};
-use sn_topic::{Predefined, TopicName};
+use sn_topic::TopicName;
 use std::alloc::Global;
 
 /// The id that a client is told for a topic, and the change that the session needs for it, if it
@@ -45,8 +45,7 @@ fn next_after(id: u16) -> u16
 /// And then a new exchange for the message, with its first frame.
 fn begin(
     alloc: Global,
-    peer: &Peer,
-    session: &Session,
+    visit: &Visit<'_>,
     put: &Put,
     phase: Phase,
     frame: Frame,
@@ -54,23 +53,25 @@ fn begin(
 ) -> Result<(), NoMemory>
     requires message { IsMessage frame }
     requires size { total_of frame ≤ MAX_FRAME }
-    ensures { OnOk result (draft.new ≡ begun peer.now session.now put.now phase frame
-        draft.old) }
+    ensures { OnOk result
+        (draft.new ≡ exchange_begun visit.now.peer.now visit.now.session.now put.now phase
+        frame draft.old) }
 {
-    send(alloc, peer, frame, draft)?;
+    send(alloc, visit.peer, frame, draft)?;
+    let msg_id = visit.session.next_id;
     let exchange = Outbound {
         origin: put.origin,
         seq: put.seq,
-        msg_id: session.next_id,
+        msg_id,
         phase,
     };
     draft.change(SessionOp::Outbound {
         exchange: Some(exchange),
-        next_id: next_after(session.next_id),
+        next_id: next_after(msg_id),
     })?;
     draft.note(LocalChange::Sent {
-        client: peer.client.copied(alloc)?,
-        moment: peer.moment,
+        client: visit.peer.client.copied(alloc)?,
+        moment: visit.peer.moment,
     })?;
     Ok(())
 }
@@ -127,14 +128,13 @@ fn id_to_tell(
 /// message is acknowledged unsent. Answers whether Delivery stops.
 fn register_first(
     alloc: Global,
-    peer: &Peer,
-    session: &Session,
+    visit: &Visit<'_>,
     put: &Put,
     told: Option<ToldId>,
     draft: &mut Draft,
 ) -> Result<bool, NoMemory>
-    ensures { IfOk result (λ stops. (stops, draft.new) ≡ spec.register_first peer.now session.now
-        put.now told draft.old) }
+    ensures { IfOk result (λ stops. (stops, draft.new) ≡ spec.register_first visit.now.peer.now
+        visit.now.session.now put.now told draft.old) }
 {
     let Some(told) = told else {
         draft.ack(put.seq, put.origin)?;
@@ -144,10 +144,10 @@ fn register_first(
     draft.change_if(change)?;
     let frame = Frame::Register {
         topic_id: id,
-        msg_id: session.next_id,
+        msg_id: visit.session.next_id,
         name: Octets::from_slice(alloc, put.topic.bytes())?,
     };
-    begin(alloc, peer, session, put, Phase::Registering, frame, draft)?;
+    begin(alloc, visit, put, Phase::Registering, frame, draft)?;
     Ok(true)
 }
 
@@ -155,61 +155,57 @@ fn register_first(
 /// with, else an exchange begins. Answers whether Delivery stops.
 fn publish_now(
     alloc: Global,
-    peer: &Peer,
-    session: &Session,
+    visit: &Visit<'_>,
     put: &Put,
     form: Form,
     draft: &mut Draft,
 ) -> Result<bool, NoMemory>
-    ensures { IfOk result (λ stops. (stops, draft.new) ≡ spec.publish_now peer.now session.now
-        put.now form draft.old) }
+    ensures { IfOk result (λ stops. (stops, draft.new) ≡ spec.publish_now visit.now.peer.now
+        visit.now.session.now put.now form draft.old) }
 {
     if put.qos.number() == 0 {
         let frame = publication(alloc, false, put, 0, form)?;
-        send(alloc, peer, frame, draft)?;
+        send(alloc, visit.peer, frame, draft)?;
         draft.ack(put.seq, put.origin)?;
         return Ok(false);
     }
-    let frame = publication(alloc, false, put, session.next_id, form)?;
-    begin(alloc, peer, session, put, Phase::Published, frame, draft)?;
+    let frame = publication(alloc, false, put, visit.session.next_id, form)?;
+    begin(alloc, visit, put, Phase::Published, frame, draft)?;
     Ok(true)
 }
 
 /// And then what the form of the message's topic asks for. Answers whether Delivery stops.
 fn deliver_by(
     alloc: Global,
-    peer: &Peer,
-    session: &Session,
+    visit: &Visit<'_>,
     put: &Put,
     form: Option<Form>,
     draft: &mut Draft,
 ) -> Result<bool, NoMemory>
-    ensures { IfOk result (λ stops. (stops, draft.new) ≡ spec.deliver_by peer.now session.now
-        put.now form draft.old) }
+    ensures { IfOk result (λ stops. (stops, draft.new) ≡ spec.deliver_by visit.now.peer.now
+        visit.now.session.now put.now form draft.old) }
 {
     match form {
         None => {
-            let told = id_to_tell(alloc, session, &put.topic)?;
-            register_first(alloc, peer, session, put, told, draft)
+            let told = id_to_tell(alloc, visit.session, &put.topic)?;
+            register_first(alloc, visit, put, told, draft)
         }
-        Some(form) => publish_now(alloc, peer, session, put, form, draft),
+        Some(form) => publish_now(alloc, visit, put, form, draft),
     }
 }
 
 /// And then one message. Answers whether Delivery stops.
 fn deliver_one(
     alloc: Global,
-    predefined: &Predefined,
-    peer: &Peer,
-    session: &Session,
+    visit: &Visit<'_>,
     put: &Put,
     draft: &mut Draft,
 ) -> Result<bool, NoMemory>
-    ensures { IfOk result (λ stops. (stops, draft.new) ≡ spec.deliver_one predefined.now peer.now
-        session.now put.now draft.old) }
+    ensures { IfOk result (λ stops. (stops, draft.new) ≡ spec.deliver_one visit.now.predefined.now
+        visit.now.peer.now visit.now.session.now put.now draft.old) }
 {
-    let form = form_of(predefined, session, &put.topic);
-    deliver_by(alloc, peer, session, put, form, draft)
+    let form = form_of(visit.predefined, visit.session, &put.topic);
+    deliver_by(alloc, visit, put, form, draft)
 }
 
 /// With nothing left a client that is Awake goes back to sleep.
@@ -234,89 +230,64 @@ fn none_left(
 /// And then the messages that are not acknowledged yet, until one of them stops it.
 fn deliver(
     alloc: Global,
-    predefined: &Predefined,
-    peer: &Peer,
-    session: &Session,
+    visit: &Visit<'_>,
     acks: &[(u64, u8)],
     pending: &[Put],
     draft: &mut Draft,
 ) -> Result<(), NoMemory>
-    ensures { OnOk result (draft.new ≡ spec.deliver predefined.now peer.now session.now
-        (left acks.now pending.now) draft.old) }
+    ensures { OnOk result (draft.new ≡ spec.deliver visit.now.predefined.now visit.now.peer.now
+        visit.now.session.now (left acks.now pending.now) draft.old) }
 {
     let mut turn = 0;
     for put in pending {
         if !is_left_in_turn(acks, &mut turn, put) {
             continue;
         }
-        if deliver_one(alloc, predefined, peer, session, put, draft)? {
+        if deliver_one(alloc, visit, put, draft)? {
             return Ok(());
         }
     }
-    none_left(alloc, peer, session, draft)
+    none_left(alloc, visit.peer, visit.session, draft)
 }
 
 /// And then the messages that are left.
-pub fn deliver_left(
-    alloc: Global,
-    predefined: &Predefined,
-    peer: &Peer,
-    session: &Session,
-    pending: &[Put],
-    draft: &mut Draft,
-) -> Result<(), NoMemory>
-    ensures { OnOk result (draft.new ≡ spec.deliver_left predefined.now peer.now session.now
-        pending.now draft.old) }
+pub fn deliver_left(alloc: Global, visit: &Visit<'_>, draft: &mut Draft) -> Result<(), NoMemory>
+    ensures { OnOk result (draft.new ≡ spec.deliver_left visit.now.predefined.now
+        visit.now.peer.now visit.now.session.now visit.now.pending.now draft.old) }
 {
     let acks = Vec::from_slice(alloc, draft.acks())?;
-    deliver(
-        alloc,
-        predefined,
-        peer,
-        session,
-        acks.as_slice(),
-        pending,
-        draft,
-    )
+    deliver(alloc, visit, acks.as_slice(), visit.pending, draft)
 }
 
 /// And then Delivery, where the client is Active or Awake and has no open exchange.
-pub fn deliver_if(
-    alloc: Global,
-    predefined: &Predefined,
-    peer: &Peer,
-    session: &Session,
-    pending: &[Put],
-    draft: &mut Draft,
-) -> Result<(), NoMemory>
-    ensures { OnOk result (draft.new ≡ spec.deliver_if predefined.now peer.now session.now
-        pending.now draft.old) }
+pub fn deliver_if(alloc: Global, visit: &Visit<'_>, draft: &mut Draft) -> Result<(), NoMemory>
+    ensures { OnOk result (draft.new ≡ spec.deliver_if visit.now.predefined.now visit.now.peer.now
+        visit.now.session.now visit.now.pending.now draft.old) }
 {
-    if !is_served(session.presence) {
+    if !is_served(visit.session.presence) {
         return Ok(());
     }
-    if open_exchange(session, draft.acks(), pending).is_some() {
+    if open_exchange(visit.session, draft.acks(), visit.pending).is_some() {
         return Ok(());
     }
-    deliver_left(alloc, predefined, peer, session, pending, draft)
+    deliver_left(alloc, visit, draft)
 }
 
 /// And then Delivery, by the session as the step so far has changed it. A session that did not
 /// change is not copied.
-pub fn then_deliver(
-    alloc: Global,
-    predefined: &Predefined,
-    peer: &Peer,
-    session: &Session,
-    pending: &[Put],
-    draft: &mut Draft,
-) -> Result<(), NoMemory>
-    ensures { OnOk result (draft.new ≡ spec.then_deliver predefined.now peer.now session.now
-        pending.now draft.old) }
+pub fn then_deliver(alloc: Global, visit: &Visit<'_>, draft: &mut Draft) -> Result<(), NoMemory>
+    ensures { OnOk result (draft.new ≡ spec.then_deliver visit.now.predefined.now
+        visit.now.peer.now visit.now.session.now visit.now.pending.now draft.old) }
 {
     if draft.changes().is_empty() {
-        return deliver_if(alloc, predefined, peer, session, pending, draft);
+        return deliver_if(alloc, visit, draft);
     }
-    let session = session_after(alloc, session, draft)?;
-    deliver_if(alloc, predefined, peer, &session, pending, draft)
+    let session = session_after(alloc, visit.session, draft)?;
+    let after = Visit {
+        predefined: visit.predefined,
+        peer: visit.peer,
+        session: &session,
+        pending: visit.pending,
+    };
+    deliver_if(alloc, &after, draft)
 }

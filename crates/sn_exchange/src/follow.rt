@@ -1,21 +1,20 @@
 //! What follows a row: Resend or Delivery (MQTT-SN 1.2 sections 6.6, 6.10, 6.13 and 6.14).
 
 ghost use Rattle.std.specs.Prelude.{◌≡◌, IfOk, OnOk};
-ghost use Rattle.sn_local.specs.Seen.{seen_of};
-ghost use Rattle.sn_plan.specs.Plans.{Gives};
+ghost use Rattle.sn_plan.specs.Plans.{GivesPlan};
 ghost use Rattle.sn_plan.specs.Bound.{session_of};
+ghost use Rattle.sn_plan.specs.Scenes.{seen_in};
 ghost use Rattle.sn_exchange.specs.Following as spec;
 
 use super::delivery::then_deliver;
-use super::peer::Peer;
+use super::peer::{Peer, Visit};
 use super::resend::then_resend;
 use octets::NoMemory;
-use rep_ops::{ClientId, Put};
+use rep_ops::ClientId;
 use sn_local::rep_model::Replica;
-use sn_local::{Addr, Config, StepFault};
-use sn_plan::{Draft, Follow, Plan, Row, plan_of_row, session_or, unseen, view_or};
+use sn_local::{Addr, StepFault};
+use sn_plan::{Draft, Follow, Plan, Row, Scene, plan_of_row, session_in, unseen, view_or};
 use sn_session::Session;
-use sn_topic::Predefined;
 use std::alloc::Global;
 
 /// The client at its address, at this moment.
@@ -32,42 +31,43 @@ pub fn peer_at(alloc: Global, address: Addr, client: &ClientId, now: u64) -> Res
 /// And then what follows.
 fn follow_by(
     alloc: Global,
-    predefined: &Predefined,
-    peer: &Peer,
-    session: &Session,
-    pending: &[Put],
+    visit: &Visit<'_>,
     draft: &mut Draft,
     follow: &Follow,
 ) -> Result<(), NoMemory>
-    ensures { OnOk result (draft.new ≡ spec.followed_by predefined.now peer.now session.now
-        pending.now draft.old follow.now) }
+    ensures { OnOk result (draft.new ≡ spec.followed_by visit.now.predefined.now visit.now.peer.now
+        visit.now.session.now visit.now.pending.now draft.old follow.now) }
 {
     match follow {
         Follow::Nothing => Ok(()),
-        Follow::Delivery => then_deliver(alloc, predefined, peer, session, pending, draft),
-        Follow::Resend => then_resend(alloc, predefined, peer, session, pending, draft),
+        Follow::Delivery => then_deliver(alloc, visit, draft),
+        Follow::Resend => then_resend(alloc, visit, draft),
     }
 }
 
 /// And then what follows, by the client's view.
 fn follow_for<R: Replica>(
     alloc: Global,
-    predefined: &Predefined,
-    replica: &R,
+    scene: &Scene<'_, R>,
     peer: &Peer,
     draft: &mut Draft,
     follow: &Follow,
 ) -> Result<(), NoMemory>
-    ensures { OnOk result (draft.new ≡ spec.followed_by predefined.now peer.now
-        (session_of (seen_of (R.kept replica.now)) peer.now.client)
-        ((seen_of (R.kept replica.now)).of peer.now.client).pending draft.old follow.now) }
+    ensures { OnOk result (draft.new ≡ spec.followed_by scene.now.config.now.predefined peer.now
+        (session_of (seen_in R.kept scene.now) peer.now.client)
+        ((seen_in R.kept scene.now).of peer.now.client).pending draft.old follow.now) }
 {
     let empty = Session::empty(alloc);
     let nobody = unseen(alloc);
-    let session = session_or(replica, &peer.client, &empty);
-    let view = view_or(replica, &peer.client, &nobody);
-    let pending = view.pending.as_slice();
-    let followed = follow_by(alloc, predefined, peer, session, pending, draft, follow);
+    let view = view_or(scene.replica, &peer.client, &nobody);
+    let session = session_in(view, &empty);
+    let visit = Visit {
+        predefined: &scene.config.predefined,
+        peer,
+        session,
+        pending: view.pending.as_slice(),
+    };
+    let followed = follow_by(alloc, &visit, draft, follow);
     drop(empty);
     drop(nobody);
     followed
@@ -76,22 +76,20 @@ fn follow_for<R: Replica>(
 /// And then what follows, for the client at this address; without one nothing follows.
 fn follow_at<R: Replica>(
     alloc: Global,
-    predefined: &Predefined,
-    replica: &R,
-    address: Addr,
-    now: u64,
+    scene: &Scene<'_, R>,
     client: &Option<ClientId>,
     draft: &mut Draft,
     follow: &Follow,
 ) -> Result<(), NoMemory>
-    ensures { OnOk result (draft.new ≡ spec.followed_for predefined.now
-        (seen_of (R.kept replica.now)) address now draft.old follow.now client.now) }
+    ensures { OnOk result (draft.new ≡ spec.followed_for scene.now.config.now.predefined
+        (seen_in R.kept scene.now) scene.now.from scene.now.moment draft.old follow.now
+        client.now) }
 {
     match client {
         None => Ok(()),
         Some(client) => {
-            let peer = peer_at(alloc, address, client, now)?;
-            let followed = follow_for(alloc, predefined, replica, &peer, draft, follow);
+            let peer = peer_at(alloc, scene.from, client, scene.moment)?;
+            let followed = follow_for(alloc, scene, &peer, draft, follow);
             drop(peer);
             followed
         }
@@ -99,25 +97,16 @@ fn follow_at<R: Replica>(
 }
 
 /// The row with what follows it, for its client at this address.
-fn followed<R: Replica>(
-    alloc: Global,
-    predefined: &Predefined,
-    replica: &R,
-    address: Addr,
-    now: u64,
-    row: Row,
-) -> Result<Row, NoMemory>
-    ensures { IfOk result (λ made. made ≡ spec.followed predefined.now
-        (seen_of (R.kept replica.now)) address now row) }
+fn followed<R: Replica>(alloc: Global, scene: &Scene<'_, R>, row: Row) -> Result<Row, NoMemory>
+    ensures { IfOk result (λ made. made ≡ spec.followed scene.now.config.now.predefined
+        (seen_in R.kept scene.now) scene.now.from scene.now.moment row) }
 {
     let Row {
         client,
         mut draft,
         follow,
     } = row;
-    match follow_at(
-        alloc, predefined, replica, address, now, &client, &mut draft, &follow,
-    ) {
+    match follow_at(alloc, scene, &client, &mut draft, &follow) {
         Ok(()) => Ok(Row {
             client,
             draft,
@@ -135,15 +124,13 @@ fn followed<R: Replica>(
 /// changed it, and the messages that waited before the step and are not acknowledged by the row.
 pub fn deliver_next<R: Replica>(
     alloc: Global,
-    config: &Config,
-    replica: &R,
-    address: Addr,
-    now: u64,
+    scene: &Scene<'_, R>,
     row: Row,
 ) -> Result<Plan, StepFault>
-    ensures { Gives result (spec.deliver_next config.now.gateway config.now.predefined
-        (seen_of (R.kept replica.now)) address now row) }
+    ensures { GivesPlan result (spec.deliver_next scene.now.config.now.gateway
+        scene.now.config.now.predefined (seen_in R.kept scene.now) scene.now.from scene.now.moment
+        row) }
 {
-    let row = followed(alloc, &config.predefined, replica, address, now, row)?;
-    plan_of_row(alloc, config.gateway, replica, row)
+    let row = followed(alloc, scene, row)?;
+    plan_of_row(alloc, scene.config.gateway, scene.replica, row)
 }

@@ -52,8 +52,8 @@ fn known_form(entry: Option<&TopicEntry>) -> Option<Form>
 }
 
 /// By the name itself, where it has two octets.
-fn short_form(name: &[u8]) -> Option<Form>
-    ensures { result ≡ spec.short_form name.now }
+fn short_name_form(name: &[u8]) -> Option<Form>
+    ensures { result ≡ spec.short_name_form name.now }
 {
     match name {
         [high, low] => Some(Form {
@@ -84,7 +84,7 @@ pub fn form_of(predefined: &Predefined, session: &Session, name: &TopicName) -> 
     if let Some(form) = known_form(session.topic_named(name)) {
         return Some(form);
     }
-    if let Some(form) = short_form(name.bytes()) {
+    if let Some(form) = short_name_form(name.bytes()) {
         return Some(form);
     }
     predefined_form(predefined, name)

@@ -21,5 +21,5 @@ pub use exchange::{
 };
 pub use follow::{deliver_next, peer_at};
 pub use form::{Form, form_again, form_of, publication};
-pub use peer::Peer;
+pub use peer::{Peer, Visit};
 pub use resend::then_resend;

@@ -11,7 +11,7 @@ ghost use Rattle.sn_exchange.specs.Resending as spec;
 use super::delivery::{deliver_if, deliver_left, send};
 use super::exchange::{message_of, open_exchange, put_left, session_after};
 use super::form::{Form, form_again, publication};
-use super::peer::Peer;
+use super::peer::{Peer, Visit};
 use octets::{NoMemory, Octets};
 use rep_ops::Put;
 use sn_frame::Frame;
@@ -19,7 +19,6 @@ use sn_local::LocalChange;
 use sn_plan::Draft;
 use sn_session::{Outbound, Phase, Session, SessionOp};
 use sn_tables::TopicEntry;
-use sn_topic::Predefined;
 use std::alloc::Global;
 
 /// And then a frame of the exchange, again. Answers that it stops.
@@ -51,25 +50,24 @@ fn give_up(session: &Session, draft: &mut Draft) -> Result<bool, NoMemory>
 /// And then the REGISTER with the id of this entry.
 fn register_by(
     alloc: Global,
-    peer: &Peer,
-    session: &Session,
+    visit: &Visit<'_>,
     put: &Put,
     msg_id: u16,
     entry: Option<&TopicEntry>,
     draft: &mut Draft,
 ) -> Result<bool, NoMemory>
-    ensures { IfOk result (λ stops. (stops, draft.new) ≡ spec.register_by peer.now session.now
-        put.now msg_id (option_copied entry.entry) draft.old) }
+    ensures { IfOk result (λ stops. (stops, draft.new) ≡ spec.register_by visit.now.peer.now
+        visit.now.session.now put.now msg_id (option_copied entry.entry) draft.old) }
 {
     match entry {
-        None => give_up(session, draft),
+        None => give_up(visit.session, draft),
         Some(entry) => {
             let frame = Frame::Register {
                 topic_id: entry.id,
                 msg_id,
                 name: Octets::from_slice(alloc, put.topic.bytes())?,
             };
-            again(alloc, peer, frame, draft)
+            again(alloc, visit.peer, frame, draft)
         }
     }
 }
@@ -77,20 +75,19 @@ fn register_by(
 /// And then the REGISTER for this message.
 fn register_again(
     alloc: Global,
-    peer: &Peer,
-    session: &Session,
+    visit: &Visit<'_>,
     msg_id: u16,
     put: Option<&Put>,
     draft: &mut Draft,
 ) -> Result<bool, NoMemory>
-    ensures { IfOk result (λ stops. (stops, draft.new) ≡ spec.register_again peer.now session.now
-        msg_id (option_copied put.entry) draft.old) }
+    ensures { IfOk result (λ stops. (stops, draft.new) ≡ spec.register_again visit.now.peer.now
+        visit.now.session.now msg_id (option_copied put.entry) draft.old) }
 {
     match put {
-        None => give_up(session, draft),
+        None => give_up(visit.session, draft),
         Some(put) => {
-            let entry = session.topic_named(&put.topic);
-            register_by(alloc, peer, session, put, msg_id, entry, draft)
+            let entry = visit.session.topic_named(&put.topic);
+            register_by(alloc, visit, put, msg_id, entry, draft)
         }
     }
 }
@@ -98,21 +95,20 @@ fn register_again(
 /// And then the PUBLISH with DUP, in this form.
 fn publish_by(
     alloc: Global,
-    peer: &Peer,
-    session: &Session,
+    visit: &Visit<'_>,
     put: &Put,
     msg_id: u16,
     form: Option<Form>,
     draft: &mut Draft,
 ) -> Result<bool, NoMemory>
-    ensures { IfOk result (λ stops. (stops, draft.new) ≡ spec.publish_by peer.now session.now
-        put.now msg_id form draft.old) }
+    ensures { IfOk result (λ stops. (stops, draft.new) ≡ spec.publish_by visit.now.peer.now
+        visit.now.session.now put.now msg_id form draft.old) }
 {
     match form {
-        None => give_up(session, draft),
+        None => give_up(visit.session, draft),
         Some(form) => {
             let frame = publication(alloc, true, put, msg_id, form)?;
-            again(alloc, peer, frame, draft)
+            again(alloc, visit.peer, frame, draft)
         }
     }
 }
@@ -120,21 +116,20 @@ fn publish_by(
 /// And then the PUBLISH of this message, with DUP.
 fn publish_again(
     alloc: Global,
-    predefined: &Predefined,
-    peer: &Peer,
-    session: &Session,
+    visit: &Visit<'_>,
     msg_id: u16,
     put: Option<&Put>,
     draft: &mut Draft,
 ) -> Result<bool, NoMemory>
-    ensures { IfOk result (λ stops. (stops, draft.new) ≡ spec.publish_again predefined.now peer.now
-        session.now msg_id (option_copied put.entry) draft.old) }
+    ensures { IfOk result (λ stops. (stops, draft.new) ≡ spec.publish_again
+        visit.now.predefined.now visit.now.peer.now visit.now.session.now msg_id
+        (option_copied put.entry) draft.old) }
 {
     match put {
-        None => give_up(session, draft),
+        None => give_up(visit.session, draft),
         Some(put) => {
-            let form = form_again(predefined, session, &put.topic);
-            publish_by(alloc, peer, session, put, msg_id, form, draft)
+            let form = form_again(visit.predefined, visit.session, &put.topic);
+            publish_by(alloc, visit, put, msg_id, form, draft)
         }
     }
 }
@@ -142,21 +137,20 @@ fn publish_again(
 /// And then the frame of an exchange of this phase. Answers whether it stops there.
 fn resend_in(
     alloc: Global,
-    predefined: &Predefined,
-    peer: &Peer,
-    session: &Session,
+    visit: &Visit<'_>,
     msg_id: u16,
     phase: Phase,
     put: Option<&Put>,
     draft: &mut Draft,
 ) -> Result<bool, NoMemory>
-    ensures { IfOk result (λ stops. (stops, draft.new) ≡ spec.resend_in predefined.now peer.now
-        session.now msg_id phase (option_copied put.entry) draft.old) }
+    ensures { IfOk result (λ stops. (stops, draft.new) ≡ spec.resend_in visit.now.predefined.now
+        visit.now.peer.now visit.now.session.now msg_id phase (option_copied put.entry)
+        draft.old) }
 {
     match phase {
-        Phase::Registering => register_again(alloc, peer, session, msg_id, put, draft),
-        Phase::Published => publish_again(alloc, predefined, peer, session, msg_id, put, draft),
-        Phase::Released => again(alloc, peer, Frame::PubRel { msg_id }, draft),
+        Phase::Registering => register_again(alloc, visit, msg_id, put, draft),
+        Phase::Published => publish_again(alloc, visit, msg_id, put, draft),
+        Phase::Released => again(alloc, visit.peer, Frame::PubRel { msg_id }, draft),
     }
 }
 
@@ -164,85 +158,61 @@ fn resend_in(
 /// and Delivery follows.
 fn resend(
     alloc: Global,
-    predefined: &Predefined,
-    peer: &Peer,
-    session: &Session,
-    pending: &[Put],
+    visit: &Visit<'_>,
     exchange: Outbound,
     draft: &mut Draft,
 ) -> Result<(), NoMemory>
-    ensures { OnOk result (draft.new ≡ spec.resend predefined.now peer.now session.now pending.now
-        exchange draft.old) }
+    ensures { OnOk result (draft.new ≡ spec.resend visit.now.predefined.now visit.now.peer.now
+        visit.now.session.now visit.now.pending.now exchange draft.old) }
 {
-    let put = put_left(draft.acks(), pending, message_of(exchange));
-    let stops = resend_in(
-        alloc,
-        predefined,
-        peer,
-        session,
-        exchange.msg_id,
-        exchange.phase,
-        put,
-        draft,
-    )?;
+    let put = put_left(draft.acks(), visit.pending, message_of(exchange));
+    let stops = resend_in(alloc, visit, exchange.msg_id, exchange.phase, put, draft)?;
     if stops {
         return Ok(());
     }
-    deliver_left(alloc, predefined, peer, session, pending, draft)
+    deliver_left(alloc, visit, draft)
 }
 
 /// And then Resend, where there is an open exchange, else Delivery.
 fn resend_if(
     alloc: Global,
-    predefined: &Predefined,
-    peer: &Peer,
-    session: &Session,
-    pending: &[Put],
+    visit: &Visit<'_>,
     exchange: Option<Outbound>,
     draft: &mut Draft,
 ) -> Result<(), NoMemory>
-    ensures { OnOk result
-        (draft.new ≡ spec.resend_if predefined.now peer.now session.now pending.now
-        exchange draft.old) }
+    ensures { OnOk result (draft.new ≡ spec.resend_if visit.now.predefined.now visit.now.peer.now
+        visit.now.session.now visit.now.pending.now exchange draft.old) }
 {
     match exchange {
-        None => deliver_if(alloc, predefined, peer, session, pending, draft),
-        Some(exchange) => resend(alloc, predefined, peer, session, pending, exchange, draft),
+        None => deliver_if(alloc, visit, draft),
+        Some(exchange) => resend(alloc, visit, exchange, draft),
     }
 }
 
 /// And then Resend, where an exchange is open, else Delivery.
-fn resend_or_deliver(
-    alloc: Global,
-    predefined: &Predefined,
-    peer: &Peer,
-    session: &Session,
-    pending: &[Put],
-    draft: &mut Draft,
-) -> Result<(), NoMemory>
-    ensures { OnOk result (draft.new ≡ spec.resend_or_deliver predefined.now peer.now session.now
-        pending.now draft.old) }
+fn resend_or_deliver(alloc: Global, visit: &Visit<'_>, draft: &mut Draft) -> Result<(), NoMemory>
+    ensures { OnOk result (draft.new ≡ spec.resend_or_deliver visit.now.predefined.now
+        visit.now.peer.now visit.now.session.now visit.now.pending.now draft.old) }
 {
-    let exchange = open_exchange(session, draft.acks(), pending);
-    resend_if(alloc, predefined, peer, session, pending, exchange, draft)
+    let exchange = open_exchange(visit.session, draft.acks(), visit.pending);
+    resend_if(alloc, visit, exchange, draft)
 }
 
 /// And then Resend, where an exchange is open, else Delivery: by the session as the step so far has
 /// changed it. A session that did not change is not copied.
-pub fn then_resend(
-    alloc: Global,
-    predefined: &Predefined,
-    peer: &Peer,
-    session: &Session,
-    pending: &[Put],
-    draft: &mut Draft,
-) -> Result<(), NoMemory>
-    ensures { OnOk result (draft.new ≡ spec.then_resend predefined.now peer.now session.now
-        pending.now draft.old) }
+pub fn then_resend(alloc: Global, visit: &Visit<'_>, draft: &mut Draft) -> Result<(), NoMemory>
+    ensures { OnOk result (draft.new ≡ spec.then_resend visit.now.predefined.now
+        visit.now.peer.now visit.now.session.now visit.now.pending.now draft.old) }
 {
     if draft.changes().is_empty() {
-        return resend_or_deliver(alloc, predefined, peer, session, pending, draft);
+        return resend_or_deliver(alloc, visit, draft);
     }
-    let session = session_after(alloc, session, draft)?;
-    resend_or_deliver(alloc, predefined, peer, &session, pending, draft)
+    let session = session_after(alloc, visit.session, draft)?;
+    let after = Visit {
+        predefined: visit.predefined,
+        peer: visit.peer,
+        session: &session,
+        pending: visit.pending,
+    };
+    resend_or_deliver(alloc, &after, draft)
 }

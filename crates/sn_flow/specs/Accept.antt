@@ -26,14 +26,14 @@ will_after Deleted will = None
 will_after (Replaced given) will = Some given
 
 -- the session as seen, but that the client no longer knows any of the topic ids
-abbrev pub unknowing : Session → Session
-unknowing s = record s { topics = map unknown s.topics }
+abbrev pub with_ids_unknown : Session → Session
+with_ids_unknown s = record s { topics = map unknown s.topics }
 
 -- the session that goes on; a clean one begins as an empty one
 abbrev pub going_on : Bool → Option Session → Session
 going_on clean None = empty_session
 going_on true (Some s) = empty_session
-going_on false (Some s) = unknowing s
+going_on false (Some s) = with_ids_unknown s
 
 -- an accepted client is Active; the rest is as it asked
 abbrev pub as_asked : Request → GivenWill → Session → Session

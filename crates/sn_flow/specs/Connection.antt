@@ -19,7 +19,7 @@ use Rattle.sn_local.specs.Bindings.{client_at}
 use Rattle.sn_local.specs.WillDialogs.{is_crowded}
 use Rattle.sn_local.specs.Locals.{Local}
 use Rattle.sn_plan.specs.Bound.{session_of}
-use Rattle.sn_plan.specs.Rows.{row_of, heard_row, turned_away}
+use Rattle.sn_plan.specs.Rows.{row_of, row_with_timer, turned_away}
 use Rattle.sn_flow.specs.Accept.{accept, has_no_room}
 
 -- whether bit k of the flags is set
@@ -47,8 +47,8 @@ ask_topic request now =
 
 -- a CONNECT that is not refused: without a will it is accepted, and the session keeps the will that
 -- it has
-abbrev pub welcomed : Request → Bool → ClientView → ℕ → Row
-welcomed request will v now =
+abbrev pub accepted_connect : Request → Bool → ClientView → ℕ → Row
+accepted_connect request will v now =
     if will then row_of Nothing request.client (ask_topic request now)
     else row_of Resend request.client (accept request AsItIs v now)
 
@@ -56,12 +56,12 @@ welcomed request will v now =
 abbrev pub connect_row : Request → Bool → ClientView → ℕ → Option ℕ → Row
 connect_row request will v now (Some code) =
     row_of Nothing request.client (sent request.address (frames.ConnAck code) nothing)
-connect_row request will v now None = welcomed request will v now
+connect_row request will v now None = accepted_connect request will v now
 
 -- the row of CONNECT (6.2)
 abbrev pub connect : Seen → Local → Addr → ℕ → ℕ → ℕ → List ℕ → ℕ → Row
 connect seen local a flags protocol duration c now =
-    heard_row (client_at a local.bindings) now
+    row_with_timer (client_at a local.bindings) now
     (connect_row (request_of a flags duration c) (has_bit flags 3) (seen.of c) now
     (refusal_of seen local.dialogs a c flags protocol))
 
@@ -86,7 +86,8 @@ disconnect_draft a c s (Some duration) =
 abbrev pub disconnect_of : Seen → Addr → Option (List ℕ) → Option ℕ → ℕ → Row
 disconnect_of seen a None duration now = turned_away a
 disconnect_of seen a (Some c) duration now =
-    heard_row (Some c) now (row_of Nothing c (disconnect_draft a c (session_of seen c) duration))
+    row_with_timer (Some c) now
+    (row_of Nothing c (disconnect_draft a c (session_of seen c) duration))
 
 -- the row of DISCONNECT (6.12 and 6.14)
 abbrev pub disconnect : Seen → Local → Addr → Option ℕ → ℕ → Row

@@ -22,7 +22,7 @@ use Rattle.sn_local.specs.Bindings.{client_at}
 use Rattle.sn_local.specs.WillDialogs.{dialog_at}
 use Rattle.sn_local.specs.Locals.{Local}
 use Rattle.sn_plan.specs.Bound.{session_of}
-use Rattle.sn_plan.specs.Rows.{row_of, heard_row, turned_away, stray}
+use Rattle.sn_plan.specs.Rows.{row_of, row_with_timer, turned_away, unexpected_row}
 use Rattle.sn_flow.specs.Accept.{accept, has_no_room}
 use Rattle.sn_flow.specs.WillUpdate.{topic_asked, will_topic_update as topic_update, will_msg_update as message_update}
 
@@ -64,19 +64,23 @@ topic_row seen dialog None now = concluded seen dialog.request Deleted now
 topic_row seen dialog (Some will) now = topic_given dialog (topic_asked will)
 
 -- WILLTOPIC at an address with a dialog
-abbrev pub topic_in : Seen → Addr → Option (List ℕ) → WillDialog → Option Will → ℕ → Awaited → Row
-topic_in seen a bound dialog will now Topic = heard_row bound now (topic_row seen dialog will now)
-topic_in seen a bound dialog will now (Message topic) = stray a bound now
+abbrev pub will_topic_in : Seen → Addr → Option (List ℕ) → WillDialog → Option Will → ℕ → Awaited
+    → Row
+will_topic_in seen a bound dialog will now Topic =
+    row_with_timer bound now (topic_row seen dialog will now)
+will_topic_in seen a bound dialog will now (Message topic) = unexpected_row a bound now
 
 -- WILLTOPIC at an address; without a dialog there nothing waits for it
-abbrev pub topic_at : Seen → Addr → Option (List ℕ) → Option WillDialog → Option Will → ℕ → Row
-topic_at seen a bound None will now = stray a bound now
-topic_at seen a bound (Some dialog) will now = topic_in seen a bound dialog will now dialog.awaited
+abbrev pub will_topic_from : Seen → Addr → Option (List ℕ) → Option WillDialog → Option Will → ℕ
+    → Row
+will_topic_from seen a bound None will now = unexpected_row a bound now
+will_topic_from seen a bound (Some dialog) will now =
+    will_topic_in seen a bound dialog will now dialog.awaited
 
 -- the row of WILLTOPIC (6.2)
 abbrev pub will_topic : Seen → Local → Addr → Option Will → ℕ → Row
 will_topic seen local a will now =
-    topic_at seen a (client_at a local.bindings) (dialog_at a local.dialogs) will now
+    will_topic_from seen a (client_at a local.bindings) (dialog_at a local.dialogs) will now
 
 -- the will of this topic with this message
 abbrev pub will_of : WillTopic → List ℕ → SessionWill
@@ -91,26 +95,26 @@ message_row seen request topic message now =
 
 -- WILLMSG at an address with a dialog
 abbrev pub message_in : Seen → Addr → Option (List ℕ) → Request → List ℕ → ℕ → Awaited → Row
-message_in seen a bound request message now Topic = stray a bound now
+message_in seen a bound request message now Topic = unexpected_row a bound now
 message_in seen a bound request message now (Message topic) =
-    heard_row bound now (message_row seen request topic message now)
+    row_with_timer bound now (message_row seen request topic message now)
 
 -- WILLMSG at an address; without a dialog there nothing waits for it
-abbrev pub message_at : Seen → Addr → Option (List ℕ) → Option WillDialog → List ℕ → ℕ → Row
-message_at seen a bound None message now = stray a bound now
-message_at seen a bound (Some dialog) message now =
+abbrev pub will_message_from : Seen → Addr → Option (List ℕ) → Option WillDialog → List ℕ → ℕ → Row
+will_message_from seen a bound None message now = unexpected_row a bound now
+will_message_from seen a bound (Some dialog) message now =
     message_in seen a bound dialog.request message now dialog.awaited
 
 -- the row of WILLMSG (6.2)
 abbrev pub will_msg : Seen → Local → Addr → List ℕ → ℕ → Row
 will_msg seen local a message now =
-    message_at seen a (client_at a local.bindings) (dialog_at a local.dialogs) message now
+    will_message_from seen a (client_at a local.bindings) (dialog_at a local.dialogs) message now
 
 -- WILLTOPICUPD of the bound client; without one the address is turned away
 abbrev pub topic_update_of : Addr → Option (List ℕ) → Option Will → ℕ → Row
 topic_update_of a None will now = turned_away a
 topic_update_of a (Some c) will now =
-    heard_row (Some c) now (row_of Delivery c (topic_update a will))
+    row_with_timer (Some c) now (row_of Delivery c (topic_update a will))
 
 -- the row of WILLTOPICUPD (6.4)
 abbrev pub will_topic_update : Local → Addr → Option Will → ℕ → Row
@@ -120,7 +124,7 @@ will_topic_update local a will now = topic_update_of a (client_at a local.bindin
 abbrev pub message_update_of : Seen → Addr → Option (List ℕ) → List ℕ → ℕ → Row
 message_update_of seen a None message now = turned_away a
 message_update_of seen a (Some c) message now =
-    heard_row (Some c) now (row_of Delivery c (message_update a (session_of seen c) message))
+    row_with_timer (Some c) now (row_of Delivery c (message_update a (session_of seen c) message))
 
 -- the row of WILLMSGUPD (6.4)
 abbrev pub will_msg_update : Seen → Local → Addr → List ℕ → ℕ → Row

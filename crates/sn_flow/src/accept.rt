@@ -42,8 +42,8 @@ fn will_after(given: GivenWill, will: Option<Will>) -> Option<Will>
 }
 
 /// The session, in which the client knows none of the topic ids any more.
-fn unknowing(alloc: Global, session: &Session) -> Result<Session, NoMemory>
-    ensures { IfOk result (λ made. made ≡ spec.unknowing session.now) }
+fn with_ids_unknown(alloc: Global, session: &Session) -> Result<Session, NoMemory>
+    ensures { IfOk result (λ made. made ≡ spec.with_ids_unknown session.now) }
 {
     let mut made = session.copied(alloc)?;
     made.topics.forget();
@@ -55,7 +55,7 @@ fn going_on(alloc: Global, clean: bool, session: &Option<Session>) -> Result<Ses
     ensures { IfOk result (λ made. made ≡ spec.going_on clean session.now) }
 {
     match session {
-        Some(session) if !clean => unknowing(alloc, session),
+        Some(session) if !clean => with_ids_unknown(alloc, session),
         _ => Ok(Session::empty(alloc)),
     }
 }

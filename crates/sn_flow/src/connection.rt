@@ -3,7 +3,7 @@
 ghost use Rattle.std.specs.Prelude.{◌≡◌, Some, IfOk, OnOk};
 ghost use Rattle.std.specs.Option.{option_copied};
 ghost use Rattle.rep_model.specs.Views.{view};
-ghost use Rattle.sn_local.specs.Seen.{seen_of};
+ghost use Rattle.sn_plan.specs.Scenes.{seen_in};
 ghost use Rattle.sn_plan.specs.declared.row.Follow.TheVariants as follows;
 ghost use Rattle.sn_plan.specs.Bound.{session_of};
 ghost use Rattle.sn_plan.specs.Drafts.{nothing};
@@ -17,10 +17,10 @@ use octets::NoMemory;
 use rep_model::rep_ops::ClientId;
 use rep_model::{ClientView, Replica};
 use sn_frame::{Flags, Frame};
-use sn_local::{Addr, Awaited, Dialogs, LocalChange, Request, WillDialog};
+use sn_local::{Addr, Awaited, LocalChange, Request, WillDialog};
 use sn_plan::{
-    CONGESTION, Draft, Follow, NOT_SUPPORTED, Row, heard_row, session_or, turn_away, unseen,
-    view_or,
+    CONGESTION, Draft, Follow, NOT_SUPPORTED, Row, Scene, row_with_timer, session_or, turn_away,
+    unseen, view_or,
 };
 use sn_session::{Presence, Session, SessionOp};
 use std::alloc::Global;
@@ -61,27 +61,24 @@ fn request_of(
 
 /// Why a CONNECT is refused, if it is.
 fn refusal_of<R: Replica>(
-    alloc: Global,
-    replica: &R,
-    dialogs: &Dialogs,
-    from: Addr,
-    client: &ClientId,
+    scene: &Scene<'_, R>,
     flags: Flags,
     protocol: u8,
-) -> Result<Option<u8>, NoMemory>
-    ensures { IfOk result (λ code. code ≡ spec.refusal_of (seen_of (R.kept replica.now))
-        dialogs.now.local.dialogs from client.now flags.bits protocol) }
+    client: &ClientId,
+) -> Option<u8>
+    ensures { result ≡ spec.refusal_of (seen_in R.kept scene.now)
+        scene.now.dialogs.now.local.dialogs scene.now.from client.now flags.bits protocol }
 {
     if protocol != PROTOCOL {
-        return Ok(Some(NOT_SUPPORTED));
+        return Some(NOT_SUPPORTED);
     }
-    if has_no_room(replica, client) {
-        return Ok(Some(CONGESTION));
+    if has_no_room(scene.replica, client) {
+        return Some(CONGESTION);
     }
-    if has_will(flags) && dialogs.is_crowded(from) {
-        return Ok(Some(CONGESTION));
+    if has_will(flags) && scene.dialogs.is_crowded(scene.from) {
+        return Some(CONGESTION);
     }
-    Ok(None)
+    None
 }
 
 /// Asks the client for the topic of its will.
@@ -124,14 +121,14 @@ fn asked(alloc: Global, request: Request, now: u64) -> Result<Row, NoMemory>
 }
 
 /// A CONNECT that is not refused.
-fn welcomed(
+fn accepted_connect(
     alloc: Global,
     request: Request,
     will: bool,
     view: &ClientView,
     now: u64,
 ) -> Result<Row, NoMemory>
-    ensures { IfOk result (λ row. row ≡ spec.welcomed request will view.now now) }
+    ensures { IfOk result (λ row. row ≡ spec.accepted_connect request will view.now now) }
 {
     if will {
         return asked(alloc, request, now);
@@ -156,7 +153,7 @@ fn connect_row(
             let draft = Draft::reply(alloc, request.address, Frame::ConnAck { code })?;
             Row::new(alloc, Follow::Nothing, &request.client, draft)
         }
-        None => welcomed(alloc, request, will, view, now),
+        None => accepted_connect(alloc, request, will, view, now),
     }
 }
 
@@ -164,39 +161,37 @@ fn connect_row(
 /// speaks from.
 pub fn connect<R: Replica>(
     alloc: Global,
-    replica: &R,
-    dialogs: &Dialogs,
-    from: Addr,
+    scene: &Scene<'_, R>,
     flags: Flags,
     protocol: u8,
     duration: u16,
     client: &ClientId,
-    now: u64,
 ) -> Result<Row, NoMemory>
-    ensures { IfOk result (λ row. row ≡ spec.connect (seen_of (R.kept replica.now))
-        dialogs.now.local from flags.bits protocol duration client.now now) }
+    ensures { IfOk result (λ row. row ≡ spec.connect (seen_in R.kept scene.now)
+        scene.now.dialogs.now.local scene.now.from flags.bits protocol duration client.now
+        scene.now.moment) }
 {
-    let refusal = refusal_of(alloc, replica, dialogs, from, client, flags, protocol)?;
-    let request = request_of(alloc, from, flags, duration, client)?;
-    let row = connect_seen(alloc, replica, request, has_will(flags), now, refusal)?;
-    heard_row(alloc, dialogs.client_at(from), now, row)
+    let refusal = refusal_of(scene, flags, protocol, client);
+    let request = request_of(alloc, scene.from, flags, duration, client)?;
+    let row = connect_seen(alloc, scene, request, has_will(flags), refusal)?;
+    let bound = scene.dialogs.client_at(scene.from);
+    row_with_timer(alloc, bound, scene.moment, row)
 }
 
 /// What a CONNECT does for the client as it is seen.
 fn connect_seen<R: Replica>(
     alloc: Global,
-    replica: &R,
+    scene: &Scene<'_, R>,
     request: Request,
     will: bool,
-    now: u64,
     refusal: Option<u8>,
 ) -> Result<Row, NoMemory>
     ensures { IfOk result (λ row. row ≡ spec.connect_row request will
-        ((seen_of (R.kept replica.now)).of request.client) now refusal) }
+        ((seen_in R.kept scene.now).of request.client) scene.now.moment refusal) }
 {
     let unseen = unseen(alloc);
-    let view = view_or(replica, &request.client, &unseen);
-    let row = connect_row(alloc, request, will, view, now, refusal);
+    let view = view_or(scene.replica, &request.client, &unseen);
+    let row = connect_row(alloc, request, will, view, scene.moment, refusal);
     drop(unseen);
     row
 }
@@ -272,38 +267,33 @@ fn disconnect_draft(
 /// A DISCONNECT of a bound client.
 fn disconnect_bound<R: Replica>(
     alloc: Global,
-    replica: &R,
-    from: Addr,
+    scene: &Scene<'_, R>,
     client: &ClientId,
     duration: Option<u16>,
-    now: u64,
 ) -> Result<Row, NoMemory>
-    ensures { IfOk result (λ row. row ≡ spec.disconnect_of (seen_of (R.kept replica.now)) from
-        (Some client.now) duration now) }
+    ensures { IfOk result (λ row. row ≡ spec.disconnect_of (seen_in R.kept scene.now)
+        scene.now.from (Some client.now) duration scene.now.moment) }
 {
     let empty = Session::empty(alloc);
-    let session = session_or(replica, client, &empty);
-    let draft = disconnect_draft(alloc, from, client, session, duration);
+    let session = session_or(scene.replica, client, &empty);
+    let draft = disconnect_draft(alloc, scene.from, client, session, duration);
     drop(empty);
     let row = Row::new(alloc, Follow::Nothing, client, draft?)?;
-    heard_row(alloc, Some(client), now, row)
+    row_with_timer(alloc, Some(client), scene.moment, row)
 }
 
 /// DISCONNECT: the client falls asleep, or leaves. From an address without binding it is answered
 /// and nothing else.
 pub fn disconnect<R: Replica>(
     alloc: Global,
-    replica: &R,
-    dialogs: &Dialogs,
-    from: Addr,
+    scene: &Scene<'_, R>,
     duration: Option<u16>,
-    now: u64,
 ) -> Result<Row, NoMemory>
-    ensures { IfOk result (λ row. row ≡ spec.disconnect (seen_of (R.kept replica.now))
-        dialogs.now.local from duration now) }
+    ensures { IfOk result (λ row. row ≡ spec.disconnect (seen_in R.kept scene.now)
+        scene.now.dialogs.now.local scene.now.from duration scene.now.moment) }
 {
-    match dialogs.client_at(from) {
-        None => turn_away(alloc, from),
-        Some(client) => disconnect_bound(alloc, replica, from, client, duration, now),
+    match scene.dialogs.client_at(scene.from) {
+        None => turn_away(alloc, scene.from),
+        Some(client) => disconnect_bound(alloc, scene, client, duration),
     }
 }

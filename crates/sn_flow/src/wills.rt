@@ -6,8 +6,8 @@ ghost use Rattle.std.specs.Option.{option_copied};
 ghost use Rattle.sn_frame.specs.declared.frame.Frame.TheVariants as frames;
 ghost use Rattle.sn_local.specs.declared.local.Awaited.TheVariants as waits;
 ghost use Rattle.sn_local.specs.declared.local.LocalChange.TheVariants.{Ask, EndDialog};
-ghost use Rattle.sn_local.specs.Seen.{seen_of};
 ghost use Rattle.sn_plan.specs.Drafts.{nothing, sent, moved};
+ghost use Rattle.sn_plan.specs.Scenes.{seen_in};
 ghost use Rattle.sn_flow.specs.Wills.{dismissed, topic_update_of, message_update_of};
 ghost use Rattle.sn_flow.specs.Wills as spec;
 
@@ -20,10 +20,10 @@ use octets::{NoMemory, Octets};
 use rep_model::Replica;
 use rep_model::rep_ops::ClientId;
 use sn_frame::{Frame, Will};
-use sn_local::{Addr, Awaited, Dialogs, LocalChange, Request, WillDialog};
+use sn_local::{Addr, Awaited, LocalChange, Request, WillDialog};
 use sn_plan::{
-    CONGESTION, Draft, Follow, NOT_SUPPORTED, Row, heard_row, session_or, stray, turn_away, unseen,
-    view_or,
+    CONGESTION, Draft, Follow, NOT_SUPPORTED, Row, Scene, bound_row, row_with_timer, session_or,
+    turn_away, unexpected_row, unseen, view_or,
 };
 use sn_session::{Message, Session, Will as SessionWill, WillTopic};
 use std::alloc::Global;
@@ -51,20 +51,19 @@ fn write_dismiss(alloc: Global, draft: &mut Draft, to: Addr, code: u8) -> Result
 /// Ends a dialog with a connection, if there is room for the client still.
 fn concluded<R: Replica>(
     alloc: Global,
-    replica: &R,
+    scene: &Scene<'_, R>,
     request: &Request,
     given: GivenWill,
-    now: u64,
 ) -> Result<Row, NoMemory>
-    ensures { IfOk result (λ row. row ≡ spec.concluded (seen_of (R.kept replica.now)) request.now
-        given now) }
+    ensures { IfOk result (λ row. row ≡ spec.concluded (seen_in R.kept scene.now) request.now
+        given scene.now.moment) }
 {
-    if has_no_room(replica, &request.client) {
+    if has_no_room(scene.replica, &request.client) {
         return dismiss(alloc, request, CONGESTION);
     }
     let unseen = unseen(alloc);
-    let view = view_or(replica, &request.client, &unseen);
-    let draft = accept(alloc, request, given, view, now);
+    let view = view_or(scene.replica, &request.client, &unseen);
+    let draft = accept(alloc, request, given, view, scene.moment);
     drop(unseen);
     Row::new(alloc, Follow::Resend, &request.client, draft?)
 }
@@ -116,16 +115,15 @@ fn topic_given(
 /// The topic that a dialog waits for.
 fn topic_row<R: Replica>(
     alloc: Global,
-    replica: &R,
+    scene: &Scene<'_, R>,
     dialog: &WillDialog,
     will: &Option<Will>,
-    now: u64,
 ) -> Result<Row, NoMemory>
-    ensures { IfOk result (λ row. row ≡ spec.topic_row (seen_of (R.kept replica.now)) dialog.now
-        will.now now) }
+    ensures { IfOk result (λ row. row ≡ spec.topic_row (seen_in R.kept scene.now) dialog.now
+        will.now scene.now.moment) }
 {
     match will {
-        None => concluded(alloc, replica, &dialog.request, GivenWill::Deleted, now),
+        None => concluded(alloc, scene, &dialog.request, GivenWill::Deleted),
         Some(will) => {
             let topic = topic_asked(alloc, will)?;
             topic_given(alloc, dialog, topic)
@@ -134,24 +132,22 @@ fn topic_row<R: Replica>(
 }
 
 /// A WILLTOPIC at an address with a dialog.
-fn topic_in<R: Replica>(
+fn will_topic_in<R: Replica>(
     alloc: Global,
-    replica: &R,
-    from: Addr,
+    scene: &Scene<'_, R>,
     bound: Option<&ClientId>,
     dialog: &WillDialog,
     will: &Option<Will>,
-    now: u64,
 ) -> Result<Row, NoMemory>
-    ensures { IfOk result (λ row. row ≡ spec.topic_in (seen_of (R.kept replica.now)) from
-        (option_copied bound.entry) dialog.now will.now now dialog.now.awaited) }
+    ensures { IfOk result (λ row. row ≡ spec.will_topic_in (seen_in R.kept scene.now) scene.now.from
+        (option_copied bound.entry) dialog.now will.now scene.now.moment dialog.now.awaited) }
 {
     match &dialog.awaited {
         Awaited::Topic => {
-            let row = topic_row(alloc, replica, dialog, will, now)?;
-            heard_row(alloc, bound, now, row)
+            let row = topic_row(alloc, scene, dialog, will)?;
+            row_with_timer(alloc, bound, scene.moment, row)
         }
-        Awaited::Message(_) => stray(alloc, from, bound, now),
+        Awaited::Message(_) => unexpected_row(alloc, scene.from, bound, scene.moment),
     }
 }
 
@@ -159,19 +155,16 @@ fn topic_in<R: Replica>(
 /// message, or, with nothing in it, is accepted without a will.
 pub fn will_topic<R: Replica>(
     alloc: Global,
-    replica: &R,
-    dialogs: &Dialogs,
-    from: Addr,
+    scene: &Scene<'_, R>,
     will: &Option<Will>,
-    now: u64,
 ) -> Result<Row, NoMemory>
-    ensures { IfOk result (λ row. row ≡ spec.will_topic (seen_of (R.kept replica.now))
-        dialogs.now.local from will.now now) }
+    ensures { IfOk result (λ row. row ≡ spec.will_topic (seen_in R.kept scene.now)
+        scene.now.dialogs.now.local scene.now.from will.now scene.now.moment) }
 {
-    let bound = dialogs.client_at(from);
-    match dialogs.dialog_at(from) {
-        None => stray(alloc, from, bound, now),
-        Some(dialog) => topic_in(alloc, replica, from, bound, dialog, will, now),
+    let bound = scene.dialogs.client_at(scene.from);
+    match scene.dialogs.dialog_at(scene.from) {
+        None => unexpected_row(alloc, scene.from, bound, scene.moment),
+        Some(dialog) => will_topic_in(alloc, scene, bound, dialog, will),
     }
 }
 
@@ -191,41 +184,38 @@ fn will_of(alloc: Global, topic: &WillTopic, message: Message) -> Result<Session
 /// The message that a dialog waits for.
 fn message_row<R: Replica>(
     alloc: Global,
-    replica: &R,
+    scene: &Scene<'_, R>,
     request: &Request,
     topic: &WillTopic,
     message: &[u8],
-    now: u64,
 ) -> Result<Row, NoMemory>
-    ensures { IfOk result (λ row. row ≡ spec.message_row (seen_of (R.kept replica.now)) request.now
-        topic.now message.now now) }
+    ensures { IfOk result (λ row. row ≡ spec.message_row (seen_in R.kept scene.now) request.now
+        topic.now message.now scene.now.moment) }
 {
     let Some(message) = Message::new(Octets::from_slice(alloc, message)?) else {
         return dismiss(alloc, request, NOT_SUPPORTED);
     };
     let will = will_of(alloc, topic, message)?;
-    concluded(alloc, replica, request, GivenWill::Replaced(will), now)
+    concluded(alloc, scene, request, GivenWill::Replaced(will))
 }
 
 /// A WILLMSG at an address with a dialog.
 fn message_in<R: Replica>(
     alloc: Global,
-    replica: &R,
-    from: Addr,
+    scene: &Scene<'_, R>,
     bound: Option<&ClientId>,
     dialog: &WillDialog,
     message: &[u8],
-    now: u64,
 ) -> Result<Row, NoMemory>
-    ensures { IfOk result (λ row. row ≡ spec.message_in (seen_of (R.kept replica.now)) from
-        (option_copied bound.entry) dialog.now.request message.now now dialog.now.awaited) }
+    ensures { IfOk result (λ row. row ≡ spec.message_in (seen_in R.kept scene.now) scene.now.from
+        (option_copied bound.entry) dialog.now.request message.now scene.now.moment
+        dialog.now.awaited) }
 {
     match &dialog.awaited {
-        Awaited::Topic => stray(alloc, from, bound, now),
+        Awaited::Topic => unexpected_row(alloc, scene.from, bound, scene.moment),
         Awaited::Message(topic) => {
-            let request = &dialog.request;
-            let row = message_row(alloc, replica, request, topic, message, now)?;
-            heard_row(alloc, bound, now, row)
+            let row = message_row(alloc, scene, &dialog.request, topic, message)?;
+            row_with_timer(alloc, bound, scene.moment, row)
         }
     }
 }
@@ -234,19 +224,16 @@ fn message_in<R: Replica>(
 /// will.
 pub fn will_msg<R: Replica>(
     alloc: Global,
-    replica: &R,
-    dialogs: &Dialogs,
-    from: Addr,
+    scene: &Scene<'_, R>,
     message: &[u8],
-    now: u64,
 ) -> Result<Row, NoMemory>
-    ensures { IfOk result (λ row. row ≡ spec.will_msg (seen_of (R.kept replica.now))
-        dialogs.now.local from message.now now) }
+    ensures { IfOk result (λ row. row ≡ spec.will_msg (seen_in R.kept scene.now)
+        scene.now.dialogs.now.local scene.now.from message.now scene.now.moment) }
 {
-    let bound = dialogs.client_at(from);
-    match dialogs.dialog_at(from) {
-        None => stray(alloc, from, bound, now),
-        Some(dialog) => message_in(alloc, replica, from, bound, dialog, message, now),
+    let bound = scene.dialogs.client_at(scene.from);
+    match scene.dialogs.dialog_at(scene.from) {
+        None => unexpected_row(alloc, scene.from, bound, scene.moment),
+        Some(dialog) => message_in(alloc, scene, bound, dialog, message),
     }
 }
 
@@ -261,61 +248,52 @@ fn update_topic(
     ensures { IfOk result (λ row. row ≡ topic_update_of from (Some client.now) will.now now) }
 {
     let draft = draft_topic(alloc, from, will)?;
-    let row = Row::new(alloc, Follow::Delivery, client, draft)?;
-    heard_row(alloc, Some(client), now, row)
+    bound_row(alloc, client, now, draft)
 }
 
 /// WILLTOPICUPD: the topic of a bound client's will is another one, or the will is deleted.
-pub fn will_topic_update(
+pub fn will_topic_update<R: Replica>(
     alloc: Global,
-    dialogs: &Dialogs,
-    from: Addr,
+    scene: &Scene<'_, R>,
     will: &Option<Will>,
-    now: u64,
 ) -> Result<Row, NoMemory>
-    ensures { IfOk result
-        (λ row. row ≡ spec.will_topic_update dialogs.now.local from will.now now) }
+    ensures { IfOk result (λ row. row ≡ spec.will_topic_update scene.now.dialogs.now.local
+        scene.now.from will.now scene.now.moment) }
 {
-    match dialogs.client_at(from) {
-        None => turn_away(alloc, from),
-        Some(client) => update_topic(alloc, from, client, will, now),
+    match scene.dialogs.client_at(scene.from) {
+        None => turn_away(alloc, scene.from),
+        Some(client) => update_topic(alloc, scene.from, client, will, scene.moment),
     }
 }
 
 /// A WILLMSGUPD of a bound client.
 fn update_message<R: Replica>(
     alloc: Global,
-    replica: &R,
-    from: Addr,
+    scene: &Scene<'_, R>,
     client: &ClientId,
     message: &[u8],
-    now: u64,
 ) -> Result<Row, NoMemory>
-    ensures { IfOk result (λ row. row ≡ message_update_of (seen_of (R.kept replica.now)) from
-        (Some client.now) message.now now) }
+    ensures { IfOk result (λ row. row ≡ message_update_of (seen_in R.kept scene.now)
+        scene.now.from (Some client.now) message.now scene.now.moment) }
 {
     let empty = Session::empty(alloc);
-    let session = session_or(replica, client, &empty);
-    let draft = draft_message(alloc, from, session, message);
+    let session = session_or(scene.replica, client, &empty);
+    let draft = draft_message(alloc, scene.from, session, message);
     drop(empty);
-    let row = Row::new(alloc, Follow::Delivery, client, draft?)?;
-    heard_row(alloc, Some(client), now, row)
+    bound_row(alloc, client, scene.moment, draft?)
 }
 
 /// WILLMSGUPD: the message of a bound client's will is another one.
 pub fn will_msg_update<R: Replica>(
     alloc: Global,
-    replica: &R,
-    dialogs: &Dialogs,
-    from: Addr,
+    scene: &Scene<'_, R>,
     message: &[u8],
-    now: u64,
 ) -> Result<Row, NoMemory>
-    ensures { IfOk result (λ row. row ≡ spec.will_msg_update (seen_of (R.kept replica.now))
-        dialogs.now.local from message.now now) }
+    ensures { IfOk result (λ row. row ≡ spec.will_msg_update (seen_in R.kept scene.now)
+        scene.now.dialogs.now.local scene.now.from message.now scene.now.moment) }
 {
-    match dialogs.client_at(from) {
-        None => turn_away(alloc, from),
-        Some(client) => update_message(alloc, replica, from, client, message, now),
+    match scene.dialogs.client_at(scene.from) {
+        None => turn_away(alloc, scene.from),
+        Some(client) => update_message(alloc, scene, client, message),
     }
 }

@@ -10,7 +10,7 @@ use Rattle.sn_frame.specs.declared.msg_type.MsgType.{MsgType}
 use Rattle.sn_frame.specs.Bodies.{type_of, body_of, is_light, IsMessage, IsValue}
 use Rattle.sn_frame.specs.Faults.{IsFirstFault, IsPlain, type_place}
 use Rattle.sn_frame.specs.Grammar.{IsFramed, Spells, spelling, total_of}
-use Rattle.sn_frame.specs.inner.Reading.{copies, frame_of, Gives, WantsFor}
+use Rattle.sn_frame.specs.inner.Reading.{copies, frame_of, ReadsFrame, WantsFor}
 use Rattle.sn_frame.specs.Types.{octet_of}
 use Rattle.sn_frame.proofs.Framing.{one_framing, one_type, no_capsule, framed_place, framed_there, body_bytes}
 use Rattle.sn_frame.proofs.Numbers.{IsBytes, chosen, otherwise}
@@ -125,17 +125,17 @@ there (Some f) h = (f, refl)
 
 -- what reading a body answers, as an answer to the whole datagram
 pub answers_ok : (bytes : List ℕ) (t : MsgType) (body : List ℕ) (r : Result Frame FrameFault)
-    → IsBytes bytes → IsFramed bytes (octet_of t) body → Gives (frame_of t body) r → IfOk r (Spells bytes)
+    → IsBytes bytes → IsFramed bytes (octet_of t) body → ReadsFrame (frame_of t body) r → IfOk r (Spells bytes)
 answers_ok bytes t body (Ok f) b framed read = (read_spells bytes t body f b framed read).1
 answers_ok bytes t body (Err e) b framed read = tt
 
 pub answers_value : (bytes : List ℕ) (t : MsgType) (body : List ℕ) (r : Result Frame FrameFault)
-    → IsBytes bytes → IsFramed bytes (octet_of t) body → Gives (frame_of t body) r → IfOk r IsValue
+    → IsBytes bytes → IsFramed bytes (octet_of t) body → ReadsFrame (frame_of t body) r → IfOk r IsValue
 answers_value bytes t body (Ok f) b framed read = (read_spells bytes t body f b framed read).0
 answers_value bytes t body (Err e) b framed read = tt
 
 pub answers_only : (bytes : List ℕ) (t : MsgType) (body : List ℕ) (r : Result Frame FrameFault) (f : Frame)
-    → IsFramed bytes (octet_of t) body → Gives (frame_of t body) r → IsValue f → Spells bytes f → (r ≡ Ok f) ⊎ (r ≡ Err faults.Memory)
+    → IsFramed bytes (octet_of t) body → ReadsFrame (frame_of t body) r → IsValue f → Spells bytes f → (r ≡ Ok f) ⊎ (r ≡ Err faults.Memory)
 answers_only bytes t body (Ok g) f framed read v s = let only = only_read bytes t body f framed v s in inl cc
 answers_only bytes t body (Err faults.Memory) f framed read v s = inr refl
 answers_only bytes t body (Err faults.Body) f framed read v s = let only = only_read bytes t body f framed v s in absurd cc
@@ -184,7 +184,7 @@ light_of false r f e wants (inr is) =
     let P : Result Frame FrameFault → Type 0 = λ x. WantsFor false x in absurd (subst P is wants refl)
 
 pub answers_light : (bytes : List ℕ) (t : MsgType) (body : List ℕ) (r : Result Frame FrameFault) (f : Frame)
-    → IsFramed bytes (octet_of t) body → Gives (frame_of t body) r → WantsFor (copies t body) r → IsValue f → Spells bytes f → IsTrue (is_light f) → r ≡ Ok f
+    → IsFramed bytes (octet_of t) body → ReadsFrame (frame_of t body) r → WantsFor (copies t body) r → IsValue f → Spells bytes f → IsTrue (is_light f) → r ≡ Ok f
 answers_light bytes t body r f framed read wants v s h =
     let one = one_framing bytes _ _ _ _ framed s.framed in
     let kind : t ≡ type_of f = one_type t (type_of f) one.0 in
@@ -194,7 +194,7 @@ answers_light bytes t body r f framed read wants v s h =
     light_of (copies t body) r f copied wants (answers_only bytes t body r f framed read v s)
 
 pub answers_fault : (bytes : List ℕ) (t : MsgType) (body : List ℕ) (r : Result Frame FrameFault)
-    → IsBytes bytes → IsPlain bytes → IsFramed bytes (octet_of t) body → Gives (frame_of t body) r → IfErr r (IsFirstFault bytes)
+    → IsBytes bytes → IsPlain bytes → IsFramed bytes (octet_of t) body → ReadsFrame (frame_of t body) r → IfErr r (IsFirstFault bytes)
 answers_fault bytes t body (Ok g) b plain framed read = tt
 answers_fault bytes t body (Err faults.Memory) b plain framed read =
     let found = there _ read in

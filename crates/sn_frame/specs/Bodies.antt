@@ -124,24 +124,24 @@ IsMessage (frames.PingReq client) = length client ≤ MAX_CLIENT_ID
 IsMessage f = Unit {0}
 
 -- a number of two octets
-abbrev pub IsNumber : ℕ → Type 0
-IsNumber n = n < 2 ^ 16
+abbrev pub FitsTwoOctets : ℕ → Type 0
+FitsTwoOctets n = n < 2 ^ 16
 
 -- The numbers of two octets in a frame have 16 bits. In a clause a number of a frame ranges over
 -- all numbers.
 abbrev pub IsValue : Frame → Type 0
-IsValue (frames.Advertise gateway duration) = IsNumber duration
-IsValue (frames.Connect flags protocol duration client) = IsNumber duration
-IsValue (frames.Register topic_id msg_id name) = IsNumber topic_id × IsNumber msg_id
-IsValue (frames.RegAck topic_id msg_id code) = IsNumber topic_id × IsNumber msg_id
-IsValue (frames.Publish flags topic msg_id body) = IsNumber topic × IsNumber msg_id
-IsValue (frames.PubAck topic_id msg_id code) = IsNumber topic_id × IsNumber msg_id
-IsValue (frames.PubComp msg_id) = IsNumber msg_id
-IsValue (frames.PubRec msg_id) = IsNumber msg_id
-IsValue (frames.PubRel msg_id) = IsNumber msg_id
-IsValue (frames.Subscribe flags msg_id topic) = IsNumber msg_id
-IsValue (frames.SubAck flags topic_id msg_id code) = IsNumber topic_id × IsNumber msg_id
-IsValue (frames.Unsubscribe flags msg_id topic) = IsNumber msg_id
-IsValue (frames.UnsubAck msg_id) = IsNumber msg_id
-IsValue (frames.Disconnect duration) = IfSome duration IsNumber
+IsValue (frames.Advertise gateway duration) = FitsTwoOctets duration
+IsValue (frames.Connect flags protocol duration client) = FitsTwoOctets duration
+IsValue (frames.Register topic_id msg_id name) = FitsTwoOctets topic_id × FitsTwoOctets msg_id
+IsValue (frames.RegAck topic_id msg_id code) = FitsTwoOctets topic_id × FitsTwoOctets msg_id
+IsValue (frames.Publish flags topic msg_id body) = FitsTwoOctets topic × FitsTwoOctets msg_id
+IsValue (frames.PubAck topic_id msg_id code) = FitsTwoOctets topic_id × FitsTwoOctets msg_id
+IsValue (frames.PubComp msg_id) = FitsTwoOctets msg_id
+IsValue (frames.PubRec msg_id) = FitsTwoOctets msg_id
+IsValue (frames.PubRel msg_id) = FitsTwoOctets msg_id
+IsValue (frames.Subscribe flags msg_id topic) = FitsTwoOctets msg_id
+IsValue (frames.SubAck flags topic_id msg_id code) = FitsTwoOctets topic_id × FitsTwoOctets msg_id
+IsValue (frames.Unsubscribe flags msg_id topic) = FitsTwoOctets msg_id
+IsValue (frames.UnsubAck msg_id) = FitsTwoOctets msg_id
+IsValue (frames.Disconnect duration) = IfSome duration FitsTwoOctets
 IsValue f = Unit {0}

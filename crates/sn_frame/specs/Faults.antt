@@ -48,10 +48,10 @@ IsFirstFault bytes faults.Body =
 IsFirstFault bytes faults.Memory = IsSpelling bytes
 
 -- the number that a refusal is printed by
-abbrev pub fault_number : FrameFault → ℕ
-fault_number faults.Empty = 1
-fault_number (faults.Length said held) = 2
-fault_number faults.Encapsulated = 3
-fault_number (faults.UnknownType kind) = 4
-fault_number faults.Body = 5
-fault_number faults.Memory = 6
+abbrev pub frame_fault_number : FrameFault → ℕ
+frame_fault_number faults.Empty = 1
+frame_fault_number (faults.Length said held) = 2
+frame_fault_number faults.Encapsulated = 3
+frame_fault_number (faults.UnknownType kind) = 4
+frame_fault_number faults.Body = 5
+frame_fault_number faults.Memory = 6

@@ -6,7 +6,7 @@ ghost use Rattle.sn_frame.specs.declared.fault.FrameFault.TheVariants as frame_f
 ghost use Rattle.sn_frame.specs.Bodies.{IsValue, is_light};
 ghost use Rattle.sn_frame.specs.Faults.{IsPlain, IsFirstFault};
 ghost use Rattle.sn_frame.specs.Grammar.{IsFramed, Spells};
-ghost use Rattle.sn_frame.specs.inner.Reading.{copies, frame_of, Gives, WantsFor};
+ghost use Rattle.sn_frame.specs.inner.Reading.{copies, frame_of, ReadsFrame, WantsFor};
 
 use crate::fault::FrameFault;
 use crate::frame::Frame;
@@ -87,7 +87,7 @@ fn open(bytes: &[u8]) -> Result<(u8, &[u8]), FrameFault>
 
 /// The message of this type with this body.
 fn message(alloc: Global, msg_type: MsgType, body: &[u8]) -> Result<Frame, FrameFault>
-    ensures gives { Gives (frame_of msg_type body.now) result }
+    ensures gives { ReadsFrame (frame_of msg_type body.now) result }
     ensures light { WantsFor (copies msg_type body.now) result }
 {
     match msg_type {

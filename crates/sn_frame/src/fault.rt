@@ -49,11 +49,11 @@ pub enum EncodeFault {
 }
 
 impl FrameFault {
-    ghost use Rattle.sn_frame.specs.Faults.{fault_number};
+    ghost use Rattle.sn_frame.specs.Faults.{frame_fault_number};
 
     /// The number that programs print for it, from 1 to 6.
     pub fn number(&self) -> u8
-        ensures { result ≡ fault_number self.now }
+        ensures { result ≡ frame_fault_number self.now }
     {
         match self {
             FrameFault::Empty => 1,

@@ -10,14 +10,14 @@ use Rattle.std.proofs.lemmas.Bool.{and_parts}
 use Rattle.std.proofs.lemmas.Cmp.{then_total, on_total, nat_cmp_total}
 use Rattle.std.proofs.lemmas.Map.Lookups.{CmpEqualImpliesEq, exact_unsigned, exact_pairs}
 use Rattle.sn_tables.specs.Tables.{with_entry, by_order}
-use Rattle.sn_tables.specs.inner.Tables.{AllAbove, IsAt, IsGap}
+use Rattle.sn_tables.specs.inner.Tables.{AllAbove, IsFoundAt, IsGap}
 use Rattle.sn_tables.proofs.Ascending.{all_filter, all_with, from_test, to_test, ascends_filter, ascends_with}
 use Rattle.sn_tables.proofs.Numbers.{tied, lower, higher}
 use Rattle.sn_tables.proofs.Places.{with_at, with_gap}
 use Rattle.rep_op.specs.Sets.{same_client}
 use Rattle.sn_local.specs.declared.config.Addr.{Addr}
 use Rattle.sn_local.specs.declared.local.Binding.{Binding}
-use Rattle.sn_local.specs.Bindings.{address_cmp, binding_cmp, same_address, of_one_client, is_apart, bound, client_at, AreBindings}
+use Rattle.sn_local.specs.Bindings.{address_cmp, binding_cmp, same_address, of_one_client, is_other_binding, bound, client_at, AreBindings}
 
 -- ---- addresses
 
@@ -68,14 +68,14 @@ module _ (a : Addr) where
   absent [] (suc i) h = absurd h
   absent (x ∷ xs) (suc i) h = ap (λ t. if t then Some x.client else client_at a xs) (at_address a x Less h.0) ∙ absent xs i h.1
 
-  pub found : (xs : List Binding) (i : ℕ) (d : Binding) → IsAt (by_address a) xs i → client_at a xs ≡ Some (get_or xs i d).client
+  pub found : (xs : List Binding) (i : ℕ) (d : Binding) → IsFoundAt (by_address a) xs i → client_at a xs ≡ Some (get_or xs i d).client
   found [] i d h = absurd h
   found (x ∷ xs) zero d h = ap (λ t. if t then Some x.client else client_at a xs) (at_address a x Equal h.0)
   found (x ∷ xs) (suc i) d h = ap (λ t. if t then Some x.client else client_at a xs) (at_address a x Less h.0) ∙ found xs i d h.1
 
 -- a binding put in its place
 module _ (e : Binding) (xs : List Binding) (i : ℕ) where
-  pub set_is : IsAt (by_address e.address) xs i → set xs i e ≡ with_entry binding_cmp e xs
+  pub set_is : IsFoundAt (by_address e.address) xs i → set xs i e ≡ with_entry binding_cmp e xs
   set_is h = sym (with_at (by_address e.address) binding_cmp e (turns e) xs i h)
 
   pub insert_is : IsGap (by_address e.address) xs i → insert xs i e ≡ with_entry binding_cmp e xs
@@ -123,10 +123,10 @@ not_true true e = absurd (true≢false (sym e))
 not_true false e = refl
 
 -- what is kept beside a new binding is of other clients
-others : (a : Addr) (c : List ℕ) (xs : List Binding) → AllByRecursion (λ y. same_client c y.client ≡ false) (filter (is_apart a c) xs)
+others : (a : Addr) (c : List ℕ) (xs : List Binding) → AllByRecursion (λ y. same_client c y.client ≡ false) (filter (is_other_binding a c) xs)
 others a c [] = tt
 others a c (x ∷ xs) =
-    elim (is_apart a c x) as (λ b. is_apart a c x ≡ b → AllByRecursion (λ y. same_client c y.client ≡ false) (cond b (x ∷ filter (is_apart a c) xs) (filter (is_apart a c) xs))) [
+    elim (is_other_binding a c x) as (λ b. is_other_binding a c x ≡ b → AllByRecursion (λ y. same_client c y.client ≡ false) (cond b (x ∷ filter (is_other_binding a c) xs) (filter (is_other_binding a c) xs))) [
       | true ↦ λ e. (client_turned x.client c false (not_true (same_client x.client c) (and_parts (not (same_address x.address a)) (not (same_client x.client c)) e).1), others a c xs)
       | false ↦ λ _. others a c xs
     ] refl
@@ -135,9 +135,9 @@ others a c (x ∷ xs) =
 pub are_bound : (a : Addr) (c : List ℕ) (xs : List Binding) → AreBindings xs → AreBindings (bound a c xs)
 are_bound a c xs h =
     let e : Binding = record { address = a; client = c } in
-    let kept = are_filter (is_apart a c) xs h in (
-      to_test binding_cmp (bound a c xs) (ascends_with binding_cmp binding_total e (filter (is_apart a c) xs) (from_test binding_cmp binding_total (filter (is_apart a c) xs) kept.0)),
-      distinct_with e (filter (is_apart a c) xs) (others a c xs) kept.1,
+    let kept = are_filter (is_other_binding a c) xs h in (
+      to_test binding_cmp (bound a c xs) (ascends_with binding_cmp binding_total e (filter (is_other_binding a c) xs) (from_test binding_cmp binding_total (filter (is_other_binding a c) xs) kept.0)),
+      distinct_with e (filter (is_other_binding a c) xs) (others a c xs) kept.1,
     )
 
 -- ---- a binding that is there already
@@ -146,35 +146,35 @@ module _ (a : Addr) (c : List ℕ) where
   abbrev new : Binding
   new = record { address = a; client = c }
 
-  kept_apart : (x : Binding) → same_address x.address a ≡ false → same_client x.client c ≡ false → is_apart a c x ≡ true
+  kept_apart : (x : Binding) → same_address x.address a ≡ false → same_client x.client c ≡ false → is_other_binding a c x ≡ true
   kept_apart x h k = ap (λ t. not t && not (same_client x.client c)) h ∙ ap not k
 
-  all_apart : (xs : List Binding) → AllAbove (by_address a) xs → AllByRecursion (λ y. same_client c y.client ≡ false) xs → filter (is_apart a c) xs ≡ xs
+  all_apart : (xs : List Binding) → AllAbove (by_address a) xs → AllByRecursion (λ y. same_client c y.client ≡ false) xs → filter (is_other_binding a c) xs ≡ xs
   all_apart [] h d = refl
   all_apart (x ∷ xs) h d =
-      ap (λ t. cond t (x ∷ filter (is_apart a c) xs) (filter (is_apart a c) xs)) (kept_apart x (at_address a x Greater h.0) (client_turned c x.client false d.0))
+      ap (λ t. cond t (x ∷ filter (is_other_binding a c) xs) (filter (is_other_binding a c) xs)) (kept_apart x (at_address a x Greater h.0) (client_turned c x.client false d.0))
       ∙ ap (λ ys. x ∷ ys) (all_apart xs h.1 d.1)
 
   -- the client of a later binding is not that of the first
-  first_apart : (x : Binding) (xs : List Binding) (i : ℕ) (d : Binding) → IsAt (by_address a) xs i → AllByRecursion (λ y. of_one_client x y ≡ false) xs
+  first_apart : (x : Binding) (xs : List Binding) (i : ℕ) (d : Binding) → IsFoundAt (by_address a) xs i → AllByRecursion (λ y. of_one_client x y ≡ false) xs
       → (get_or xs i d).client ≡ c → same_client x.client c ≡ false
   first_apart x [] i d h k is = absurd h
   first_apart x (y ∷ ys) zero d h k is = ap (λ e. same_client x.client e) (sym is) ∙ k.0
   first_apart x (y ∷ ys) (suc i) d h k is = first_apart x ys i d h.1 k.1 is
 
-  pub bound_same : (xs : List Binding) (i : ℕ) (d : Binding) → IsAt (by_address a) xs i → IsDistinct of_one_client xs → (get_or xs i d).client ≡ c → bound a c xs ≡ xs
+  pub bound_same : (xs : List Binding) (i : ℕ) (d : Binding) → IsFoundAt (by_address a) xs i → IsDistinct of_one_client xs → (get_or xs i d).client ≡ c → bound a c xs ≡ xs
   unfolding IsDistinct
   bound_same [] i d h k is = absurd h
   bound_same (x ∷ xs) zero d h k is =
-      let own : is_apart a c x ≡ false = ap (λ t. not t && not (same_client x.client c)) (at_address a x Equal h.0) in
+      let own : is_other_binding a c x ≡ false = ap (λ t. not t && not (same_client x.client c)) (at_address a x Equal h.0) in
       let others : AllByRecursion (λ y. same_client c y.client ≡ false) xs = subst (λ e. AllByRecursion (λ y. same_client e y.client ≡ false) xs) is k.0 in
       let same : x ≡ new = λ i. record { address = address_exact x.address a h.0 i; client = is i } in
-      ap (λ t. with_entry binding_cmp new (cond t (x ∷ filter (is_apart a c) xs) (filter (is_apart a c) xs))) own
+      ap (λ t. with_entry binding_cmp new (cond t (x ∷ filter (is_other_binding a c) xs) (filter (is_other_binding a c) xs))) own
       ∙ ap (with_entry binding_cmp new) (all_apart xs h.1 others)
       ∙ with_gap (by_address a) binding_cmp new (turns new) xs zero h.1
       ∙ ap (λ e. e ∷ xs) (sym same)
   bound_same (x ∷ xs) (suc i) d h k is =
-      let other : is_apart a c x ≡ true = kept_apart x (at_address a x Less h.0) (first_apart x xs i d h.1 k.0 is) in
-      ap (λ t. with_entry binding_cmp new (cond t (x ∷ filter (is_apart a c) xs) (filter (is_apart a c) xs))) other
-      ∙ ap (λ o. by_order o (new ∷ x ∷ filter (is_apart a c) xs) (new ∷ filter (is_apart a c) xs) (x ∷ bound a c xs)) (turns new x ∙ ap ordering_reverse h.0)
+      let other : is_other_binding a c x ≡ true = kept_apart x (at_address a x Less h.0) (first_apart x xs i d h.1 k.0 is) in
+      ap (λ t. with_entry binding_cmp new (cond t (x ∷ filter (is_other_binding a c) xs) (filter (is_other_binding a c) xs))) other
+      ∙ ap (λ o. by_order o (new ∷ x ∷ filter (is_other_binding a c) xs) (new ∷ filter (is_other_binding a c) xs) (x ∷ bound a c xs)) (turns new x ∙ ap ordering_reverse h.0)
       ∙ ap (λ ys. x ∷ ys) (bound_same xs i d h.1 k.1 is)

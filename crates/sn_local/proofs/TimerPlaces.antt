@@ -9,7 +9,7 @@ use Rattle.std.specs.List.{insert, filter, find}
 use Rattle.rep_op.specs.Orders.{client_cmp}
 use Rattle.rep_op.specs.Sets.{same_client}
 use Rattle.rep_model.proofs.Readers.{client_total}
-use Rattle.sn_tables.specs.inner.Tables.{IsAt, IsGap}
+use Rattle.sn_tables.specs.inner.Tables.{IsFoundAt, IsGap}
 use Rattle.sn_tables.proofs.Ascending.{Ascends, from_test, to_test, ascends_with, ascends_filter}
 use Rattle.sn_tables.proofs.Places.{find_at, find_gap, with_at, with_gap}
 use Rattle.sn_local.specs.declared.local.Timer.{Timer}
@@ -48,14 +48,14 @@ module _ (timers : List Timer) (i : ℕ) where
     above : (t : Timer) → by_client c t ≡ Greater → same_client t.client c ≡ false
     above t h = same_by_order t.client c ∙ ap is_eq h
 
-    pub found : (d : Timer) → IsAt (by_client c) timers i → timer_of c timers ≡ Some (get_or timers i d)
+    pub found : (d : Timer) → IsFoundAt (by_client c) timers i → timer_of c timers ≡ Some (get_or timers i d)
     found d h = found_first c timers ∙ find_at (by_client c) (λ t. same_client t.client c) passes below above timers i d h
 
     pub absent : IsGap (by_client c) timers i → timer_of c timers ≡ None
     absent h = found_first c timers ∙ find_gap (by_client c) (λ t. same_client t.client c) passes below above timers i h
 
   module _ (t : Timer) where
-    pub set_is : IsAt (by_client t.client) timers i → set timers i t ≡ timed t timers
+    pub set_is : IsFoundAt (by_client t.client) timers i → set timers i t ≡ timed t timers
     set_is h = sym (with_at (by_client t.client) timer_cmp t (turns t) timers i h)
 
     pub insert_is : IsGap (by_client t.client) timers i → insert timers i t ≡ timed t timers

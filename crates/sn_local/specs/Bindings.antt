@@ -9,7 +9,7 @@ use Rattle.rep_op.specs.Sets.{same_client}
 use Rattle.sn_local.specs.declared.config.Addr.{Addr}
 use Rattle.sn_local.specs.declared.local.Binding.{Binding}
 use Rattle.sn_local.specs.declared.local.LocalChange.{LocalChange}
-use Rattle.sn_local.specs.declared.local.LocalChange.TheVariants.{Bind, Unbind, Time, Heard, Sent, Resent, Retried, Ask, EndDialog, Advertised}
+use Rattle.sn_local.specs.declared.local.LocalChange.TheVariants.{Bind, Unbind}
 use Rattle.sn_local.specs.Seen.{Seen}
 
 -- whether two addresses have the same host and port
@@ -34,13 +34,15 @@ AreBindings bindings =
     IsTrue (is_ascending binding_cmp bindings) × IsDistinct of_one_client bindings
 
 -- whether a binding has neither the address nor the client
-abbrev pub is_apart : Addr → List ℕ → Binding → Bool
-is_apart a c binding = not (same_address binding.address a) && not (same_client binding.client c)
+abbrev pub is_other_binding : Addr → List ℕ → Binding → Bool
+is_other_binding a c binding =
+    not (same_address binding.address a) && not (same_client binding.client c)
 
 -- a new binding, which replaces all others of its address and of its client
 abbrev pub bound : Addr → List ℕ → List Binding → List Binding
 bound a c bindings =
-    with_entry binding_cmp (record { address = a; client = c }) (filter (is_apart a c) bindings)
+    with_entry binding_cmp (record { address = a; client = c })
+    (filter (is_other_binding a c) bindings)
 
 -- whether a binding is of another client
 abbrev pub is_of_other : List ℕ → Binding → Bool
@@ -54,14 +56,7 @@ unbound c bindings = filter (is_of_other c) bindings
 abbrev pub binding_change : List Binding → LocalChange → List Binding
 binding_change bindings (Bind a c) = bound a c bindings
 binding_change bindings (Unbind c) = unbound c bindings
-binding_change bindings (Time timer) = bindings
-binding_change bindings (Heard c now) = bindings
-binding_change bindings (Sent c now) = bindings
-binding_change bindings (Resent c now) = bindings
-binding_change bindings (Retried c now) = bindings
-binding_change bindings (Ask dialog) = bindings
-binding_change bindings (EndDialog a) = bindings
-binding_change bindings (Advertised now) = bindings
+binding_change bindings change = bindings
 
 -- the bindings after these changes
 abbrev pub bindings_after : List Binding → List LocalChange → List Binding

@@ -4,6 +4,6 @@ use Rattle.sn_local.specs.declared.fault.StepFault.{StepFault}
 use Rattle.sn_local.specs.declared.fault.StepFault.TheVariants.{Exhausted, Memory}
 
 -- the number by which reports name a fault
-abbrev pub number_of : StepFault → ℕ
-number_of Exhausted = 1
-number_of Memory = 2
+abbrev pub step_fault_number : StepFault → ℕ
+step_fault_number Exhausted = 1
+step_fault_number Memory = 2

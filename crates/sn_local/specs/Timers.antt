@@ -7,7 +7,7 @@ use Rattle.rep_op.specs.Orders.{client_cmp}
 use Rattle.rep_op.specs.Sets.{same_client}
 use Rattle.sn_local.specs.declared.local.Timer.{Timer}
 use Rattle.sn_local.specs.declared.local.LocalChange.{LocalChange}
-use Rattle.sn_local.specs.declared.local.LocalChange.TheVariants.{Bind, Unbind, Time, Heard, Sent, Resent, Retried, Ask, EndDialog, Advertised}
+use Rattle.sn_local.specs.declared.local.LocalChange.TheVariants.{Time, Heard, Sent, Resent, Retried}
 use Rattle.sn_local.specs.Seen.{Seen}
 use Rattle.sn_local.specs.Bindings.{is_owned}
 
@@ -77,16 +77,12 @@ tried_again c now timers = timed (retried_at c now (timer_of c timers)) timers
 
 -- the timers after this change; bindings, will dialogs and ADVERTISE leave them as they are
 abbrev pub timer_change : List Timer → LocalChange → List Timer
-timer_change timers (Bind a c) = timers
-timer_change timers (Unbind c) = timers
 timer_change timers (Time timer) = timed timer timers
 timer_change timers (Heard c now) = heard c now timers
 timer_change timers (Sent c now) = sent_anew c now timers
 timer_change timers (Resent c now) = sent_again c now timers
 timer_change timers (Retried c now) = tried_again c now timers
-timer_change timers (Ask dialog) = timers
-timer_change timers (EndDialog a) = timers
-timer_change timers (Advertised now) = timers
+timer_change timers change = timers
 
 -- the timers after these changes
 abbrev pub timers_after : List Timer → List LocalChange → List Timer

@@ -4,7 +4,7 @@ use Rattle.std.specs.Prelude.{Bool, not, if◌then◌else◌, nat_le, List, [], 
 use Rattle.sn_local.specs.declared.config.Addr.{Addr}
 use Rattle.sn_local.specs.declared.local.WillDialog.{WillDialog}
 use Rattle.sn_local.specs.declared.local.LocalChange.{LocalChange}
-use Rattle.sn_local.specs.declared.local.LocalChange.TheVariants.{Bind, Unbind, Time, Heard, Sent, Resent, Retried, Ask, EndDialog, Advertised}
+use Rattle.sn_local.specs.declared.local.LocalChange.TheVariants.{Ask, EndDialog}
 use Rattle.sn_local.specs.declared.will_dialogs.TheConstants.{MAX_DIALOGS}
 use Rattle.sn_local.specs.Bindings.{same_address}
 
@@ -22,16 +22,9 @@ asked dialog dialogs = dialogs_elsewhere dialog.request.address dialogs ++ dialo
 
 -- the will dialogs after this change; only `Ask` and `EndDialog` change them
 abbrev pub dialog_change : List WillDialog → LocalChange → List WillDialog
-dialog_change dialogs (Bind a c) = dialogs
-dialog_change dialogs (Unbind c) = dialogs
-dialog_change dialogs (Time timer) = dialogs
-dialog_change dialogs (Heard c now) = dialogs
-dialog_change dialogs (Sent c now) = dialogs
-dialog_change dialogs (Resent c now) = dialogs
-dialog_change dialogs (Retried c now) = dialogs
 dialog_change dialogs (Ask dialog) = asked dialog dialogs
 dialog_change dialogs (EndDialog a) = dialogs_elsewhere a dialogs
-dialog_change dialogs (Advertised now) = dialogs
+dialog_change dialogs change = dialogs
 
 -- the dialogs after these changes
 abbrev pub dialogs_after : List WillDialog → List LocalChange → List WillDialog

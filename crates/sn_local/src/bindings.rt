@@ -17,8 +17,8 @@ use rep_model::Replica;
 use rep_model::rep_ops::{ClientId, Stamp};
 
 /// Whether a binding has neither the address nor the client.
-fn is_apart(address: Addr, client: &ClientId, binding: &Binding) -> bool
-    ensures { result ≡ spec.is_apart address client.now binding.now }
+fn is_other_binding(address: Addr, client: &ClientId, binding: &Binding) -> bool
+    ensures { result ≡ spec.is_other_binding address client.now binding.now }
 {
     binding.address != address && binding.client != *client
 }
@@ -33,13 +33,13 @@ fn is_of_other(client: &ClientId, binding: &Binding) -> bool
 /// Drops the bindings of the address and of the client.
 fn release(bindings: &mut Vec<Binding>, address: Addr, client: &ClientId)
     requires { AreBindings bindings.old.items }
-    ensures items { bindings.new.items ≡ filter (spec.is_apart address client.now)
+    ensures items { bindings.new.items ≡ filter (spec.is_other_binding address client.now)
         bindings.old.items }
     ensures ascend { AreBindings bindings.new.items }
     ensures capacity { vec_capacity bindings.new ≡ vec_capacity bindings.old }
     ensures len { vec_len bindings.new ≤ vec_len bindings.old }
 {
-    bindings.retain(|binding| is_apart(address, client, binding));
+    bindings.retain(|binding| is_other_binding(address, client, binding));
 }
 
 /// The client has no address any more.

@@ -2,7 +2,7 @@
 
 ghost use Rattle.std.specs.Prelude.{◌≡◌};
 ghost use Rattle.sn_local.specs.declared.fault.StepFault.TheVariants.{Memory};
-ghost use Rattle.sn_local.specs.Faults.{number_of};
+ghost use Rattle.sn_local.specs.Faults.{step_fault_number};
 
 use octets::NoMemory;
 use std::alloc::{AllocError, AllocFailed};
@@ -22,7 +22,7 @@ pub enum StepFault {
 impl StepFault {
     /// The number by which reports name the fault, 1 or 2.
     pub fn number(&self) -> u8
-        ensures { result ≡ number_of self.now }
+        ensures { result ≡ step_fault_number self.now }
     {
         match self {
             StepFault::Exhausted => 1,

@@ -12,7 +12,7 @@ use Rattle.rep_op.specs.declared.op.Op.{Op}
 use Rattle.rep_op.specs.declared.op.Op.TheVariants.{Session as OfSession, Put as OfPut, Ack, Retain as OfRetain}
 use Rattle.rep_op.specs.declared.op.Retained.{Retained}
 use Rattle.rep_op.specs.Orders.{operation_cmp, put_cmp, clock_of, clock_cmp}
-use Rattle.rep_op.specs.Sets.{same_client, same_topic, operation_of, operation_at, put_of, put_at, acknowledges, is_acknowledged, retain_of, retain_at, Stands, IsConsistent, Agrees, Same}
+use Rattle.rep_op.specs.Sets.{same_client, same_topic, operation_of, operation_at, put_of, put_at, acknowledges, is_acknowledged, retain_of, retain_at, HasOperation, IsConsistent, Agrees, Same}
 use Rattle.rep_model.specs.Views.{visible}
 use Rattle.rep_model.specs.Topics.{latest}
 use Rattle.rep_model.specs.Keep.{is_below, is_outdone, keep}
@@ -20,13 +20,13 @@ use Rattle.rep_model.specs.Taking.{AllAgree}
 use Rattle.rep_model.proofs.Lookup.{or_else, find-all}
 use Rattle.rep_model.proofs.Readers.{operation_exact, put_total, put_exact, clock_total, clock_exact, same_client-true, same_topic-true, operation_at_both, put_at_both, is_acknowledged_both, retain_at_both, operation_at_keep, put_at_keep, retain_at_keep}
 use Rattle.rep_model.proofs.Thin.{some_left, some_right}
-use Rattle.sn_plan.specs.Own.{IsFresh, AreFresh}
+use Rattle.sn_plan.specs.Own.{IsFreshName, AreFresh}
 use Rattle.sn_plan.proofs.Lists.{all-append, all-weaken}
 use Rattle.sn_local.proofs.Entries.{same_client-itself, none_or, at_own}
 
 -- ---- what stands
 
-stands-more : (A B : List Op) (op : Op) → Stands A op → Stands (A ++ B) op
+stands-more : (A B : List Op) (op : Op) → HasOperation A op → HasOperation (A ++ B) op
 stands-more A B (OfSession c stamp counter change) h = operation_at_both c A B (stamp, counter) ∙ ap (λ a. or_else a (operation_at c B (stamp, counter))) h
 stands-more A B (OfPut c p) h = put_at_both c A B (p.seq, p.origin) ∙ ap (λ a. or_else a (put_at c B (p.seq, p.origin))) h
 stands-more A B (Ack c origin first last) h = λ seq lower upper. is_acknowledged_both c A B (seq, origin) ∙ ap (λ a. a || is_acknowledged c B (seq, origin)) (h seq lower upper)
@@ -42,7 +42,7 @@ retain-alone t k =
     ap (λ b. find clock_cmp (clock_of k) (cons_option (if b then Some (clock_of k, k) else None) [])) (same_client-itself t)
     ∙ ap (λ r. cond (is_eq r) (Some k) None) (tied_itself clock_total (clock_of k))
 
-stands-new : (S : List Op) (op : Op) → IsFresh S op → Stands (S ++ op ∷ []) op
+stands-new : (S : List Op) (op : Op) → IsFreshName S op → HasOperation (S ++ op ∷ []) op
 stands-new S (OfSession c stamp counter change) h = at_own c S stamp counter change h
 stands-new S (OfPut c p) h = put_at_both c S (OfPut c p ∷ []) (p.seq, p.origin) ∙ none_or (put_at c S (p.seq, p.origin)) (put_at c (OfPut c p ∷ []) (p.seq, p.origin)) h ∙ put-alone c p
 stands-new S (OfRetain t k) h = retain_at_both t S (OfRetain t k ∷ []) (clock_of k) ∙ none_or (retain_at t S (clock_of k)) (retain_at t (OfRetain t k ∷ []) (clock_of k)) h ∙ retain-alone t k
@@ -53,15 +53,15 @@ stands-new S (Ack c origin first last) h = λ seq lower upper.
     ∙ or_right (is_acknowledged c S (seq, origin)) (is_acknowledged c (Ack c origin first last ∷ []) (seq, origin))
     (or_left (acknowledges c (seq, origin) (Ack c origin first last)) false (and_from (same_client c c && (origin == origin) && nat_le first seq) (nat_le seq last) from (le-leb seq last upper)))
 
-pub fresh-stand : (S ops : List Op) → AreFresh S ops → AllByRecursion (Stands (S ++ ops)) ops
+pub fresh-stand : (S ops : List Op) → AreFresh S ops → AllByRecursion (HasOperation (S ++ ops)) ops
 fresh-stand S [] f = tt
 fresh-stand S (op ∷ ops) f = (
-  subst (λ T. Stands T op) (append_assoc S (op ∷ []) ops) (stands-more (S ++ op ∷ []) ops op (stands-new S op f.0)),
-  subst (λ T. AllByRecursion (Stands T) ops) (append_assoc S (op ∷ []) ops) (fresh-stand (S ++ op ∷ []) ops f.1),
+  subst (λ T. HasOperation T op) (append_assoc S (op ∷ []) ops) (stands-more (S ++ op ∷ []) ops op (stands-new S op f.0)),
+  subst (λ T. AllByRecursion (HasOperation T) ops) (append_assoc S (op ∷ []) ops) (fresh-stand (S ++ op ∷ []) ops f.1),
 )
 
 pub plan-consistent : (S ops : List Op) → AreFresh S ops → IsConsistent S → IsConsistent (S ++ ops)
-plan-consistent S ops f h = all-append (Stands (S ++ ops)) S ops (all-weaken (Stands S) (Stands (S ++ ops)) (stands-more S ops) S h) (fresh-stand S ops f)
+plan-consistent S ops f h = all-append (HasOperation (S ++ ops)) S ops (all-weaken (HasOperation S) (HasOperation (S ++ ops)) (stands-more S ops) S h) (fresh-stand S ops f)
 
 -- ---- what agrees
 
@@ -69,17 +69,17 @@ none_first : {X : Type 0} (a b : Option X) → or_else a b ≡ None → a ≡ No
 none_first None b e = refl
 none_first (Some x) b e = e
 
-fresh-part : (A B : List Op) (op : Op) → IsFresh (A ++ B) op → IsFresh A op
+fresh-part : (A B : List Op) (op : Op) → IsFreshName (A ++ B) op → IsFreshName A op
 fresh-part A B (OfSession c stamp counter change) h = none_first (operation_at c A (stamp, counter)) (operation_at c B (stamp, counter)) (sym (operation_at_both c A B (stamp, counter)) ∙ h)
 fresh-part A B (OfPut c p) h = none_first (put_at c A (p.seq, p.origin)) (put_at c B (p.seq, p.origin)) (sym (put_at_both c A B (p.seq, p.origin)) ∙ h)
 fresh-part A B (Ack c origin first last) h = tt
 fresh-part A B (OfRetain t k) h = none_first (retain_at t A (clock_of k)) (retain_at t B (clock_of k)) (sym (retain_at_both t A B (clock_of k)) ∙ h)
 
-all-fresh : (S ops : List Op) → AreFresh S ops → AllByRecursion (IsFresh S) ops
+all-fresh : (S ops : List Op) → AreFresh S ops → AllByRecursion (IsFreshName S) ops
 all-fresh S [] f = tt
-all-fresh S (op ∷ ops) f = (f.0, all-weaken (IsFresh (S ++ op ∷ [])) (IsFresh S) (fresh-part S (op ∷ [])) ops (all-fresh (S ++ op ∷ []) ops f.1))
+all-fresh S (op ∷ ops) f = (f.0, all-weaken (IsFreshName (S ++ op ∷ [])) (IsFreshName S) (fresh-part S (op ∷ [])) ops (all-fresh (S ++ op ∷ []) ops f.1))
 
-fresh-operation : (S : List Op) (c : List ℕ) (op : Op) → IsFresh S op → IfSome (operation_of c op) (λ e. operation_at c S e.0 ≡ None)
+fresh-operation : (S : List Op) (c : List ℕ) (op : Op) → IsFreshName S op → IfSome (operation_of c op) (λ e. operation_at c S e.0 ≡ None)
 fresh-operation S c (OfSession d stamp counter change) h =
     elim (same_client c d) as (λ b. same_client c d ≡ b → IfSome {T = (Stamp × ℕ) × SessionOp} (if b then Some ((stamp, counter), change) else None) (λ e. operation_at c S e.0 ≡ None)) [
       | true ↦ λ t. ap (λ x. operation_at x S (stamp, counter)) (same_client-true c d t) ∙ h
@@ -89,7 +89,7 @@ fresh-operation S c (OfPut d p) h = tt
 fresh-operation S c (Ack d origin first last) h = tt
 fresh-operation S c (OfRetain t k) h = tt
 
-fresh-put : (S : List Op) (c : List ℕ) (op : Op) → IsFresh S op → IfSome (put_of c op) (λ e. put_at c S e.0 ≡ None)
+fresh-put : (S : List Op) (c : List ℕ) (op : Op) → IsFreshName S op → IfSome (put_of c op) (λ e. put_at c S e.0 ≡ None)
 fresh-put S c (OfSession d stamp counter change) h = tt
 fresh-put S c (OfPut d p) h =
     elim (same_client c d) as (λ b. same_client c d ≡ b → IfSome {T = (ℕ × ℕ) × Put} (if b then Some ((p.seq, p.origin), p) else None) (λ e. put_at c S e.0 ≡ None)) [
@@ -99,7 +99,7 @@ fresh-put S c (OfPut d p) h =
 fresh-put S c (Ack d origin first last) h = tt
 fresh-put S c (OfRetain t k) h = tt
 
-fresh-retain : (S : List Op) (t : List ℕ) (op : Op) → IsFresh S op → IfSome (retain_of t op) (λ e. retain_at t S e.0 ≡ None)
+fresh-retain : (S : List Op) (t : List ℕ) (op : Op) → IsFreshName S op → IfSome (retain_of t op) (λ e. retain_at t S e.0 ≡ None)
 fresh-retain S t (OfSession d stamp counter change) h = tt
 fresh-retain S t (OfPut d p) h = tt
 fresh-retain S t (Ack d origin first last) h = tt
@@ -142,7 +142,7 @@ none_kept false o e = refl
 
 -- what stands in fresh operations does not stand in the set
 pub fresh-absent : (S ops : List Op) → AreFresh S ops → (c : List ℕ) (name : Stamp × ℕ) → IfSome (operation_at c ops name) (λ _. operation_at c S name ≡ None)
-fresh-absent S ops f c name = find-all operation_cmp operation_exact (operation_of c) (λ n x. operation_at c S n ≡ None) ops (all-weaken (IsFresh S) (λ op. IfSome (operation_of c op) (λ e. operation_at c S e.0 ≡ None)) (fresh-operation S c) ops (all-fresh S ops f)) name
+fresh-absent S ops f c name = find-all operation_cmp operation_exact (operation_of c) (λ n x. operation_at c S n ≡ None) ops (all-weaken (IsFreshName S) (λ op. IfSome (operation_of c op) (λ e. operation_at c S e.0 ≡ None)) (fresh-operation S c) ops (all-fresh S ops f)) name
 
 module _ (S ops : List Op) (f : AreFresh S ops) (delta : List Op) (same : Same delta ops) where
   pub new-operation : (c : List ℕ) (name : Stamp × ℕ) → is_some (operation_at c delta name) ≡ true → operation_at c S name ≡ None
@@ -150,12 +150,12 @@ module _ (S ops : List Op) (f : AreFresh S ops) (delta : List Op) (same : Same d
 
   pub new-put : (c : List ℕ) (name : ℕ × ℕ) → is_some (put_at c delta name) ≡ true → put_at c S name ≡ None
   new-put c name = if_there (put_at c ops name) (put_at c delta name) (put_at c S name)
-      (find-all put_cmp put_exact (put_of c) (λ n x. put_at c S n ≡ None) ops (all-weaken (IsFresh S) (λ op. IfSome (put_of c op) (λ e. put_at c S e.0 ≡ None)) (fresh-put S c) ops (all-fresh S ops f)) name)
+      (find-all put_cmp put_exact (put_of c) (λ n x. put_at c S n ≡ None) ops (all-weaken (IsFreshName S) (λ op. IfSome (put_of c op) (λ e. put_at c S e.0 ≡ None)) (fresh-put S c) ops (all-fresh S ops f)) name)
       (same.puts_same c name)
 
   pub new-retain : (t : List ℕ) (name : ℕ × ℕ) → is_some (retain_at t delta name) ≡ true → retain_at t S name ≡ None
   new-retain t name = if_there (retain_at t ops name) (retain_at t delta name) (retain_at t S name)
-      (find-all clock_cmp clock_exact (retain_of t) (λ n x. retain_at t S n ≡ None) ops (all-weaken (IsFresh S) (λ op. IfSome (retain_of t op) (λ e. retain_at t S e.0 ≡ None)) (fresh-retain S t) ops (all-fresh S ops f)) name)
+      (find-all clock_cmp clock_exact (retain_of t) (λ n x. retain_at t S n ≡ None) ops (all-weaken (IsFreshName S) (λ op. IfSome (retain_of t op) (λ e. retain_at t S e.0 ≡ None)) (fresh-retain S t) ops (all-fresh S ops f)) name)
       (same.retains_same t name)
 
   agree : (op : Op) → IsThere delta op → Agrees S op × Agrees (keep S) op

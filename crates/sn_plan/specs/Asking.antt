@@ -1,7 +1,7 @@
 -- What a frame asks for by its flags and its topic field (MQTT-SN 1.2 sections 5.3.4, 5.3.11 and
 -- 5.3.12).
 use Rattle.std.specs.Prelude.{ℕ, ◌+◌, ◌*◌, ◌^◌, ◌==◌, Bool, not, bit_and, if◌then◌else◌, List, ◌∷◌, Option, Some, None}
-use Rattle.sn_topic.specs.Table.{Entries, name_of}
+use Rattle.sn_topic.specs.Table.{Entries, name_of_id}
 use Rattle.sn_topic.specs.Topics.{is_name, is_filter}
 use Rattle.sn_frame.specs.declared.flags.Qos.{Qos}
 use Rattle.sn_frame.specs.declared.flags.Qos.TheVariants as levels
@@ -43,6 +43,6 @@ id_in octets = 0
 -- which it is refused
 abbrev pub topics_asked : Entries → TopicIdType → List ℕ → Asked
 topics_asked predefined kinds.Normal field = in_full field
-topics_asked predefined kinds.Predefined field = by_id (name_of (id_in field) predefined)
+topics_asked predefined kinds.Predefined field = by_id (name_of_id (id_in field) predefined)
 topics_asked predefined kinds.Short field = in_short field
 topics_asked predefined kinds.Reserved field = Refused 3

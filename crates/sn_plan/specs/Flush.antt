@@ -7,7 +7,7 @@ use Rattle.rep_op.specs.declared.op.Stamp.{Stamp}
 use Rattle.rep_op.specs.declared.op.Op.{Op}
 use Rattle.rep_op.specs.Sets.{operation_at}
 use Rattle.rep_model.specs.declared.view.ClientView.{ClientView}
-use Rattle.rep_model.specs.Views.{visible, history, session_of}
+use Rattle.rep_model.specs.Views.{visible, history, session_made}
 use Rattle.sn_plan.specs.Numbering.{Written}
 
 -- the stamp of an epoch and a gateway
@@ -18,14 +18,14 @@ stamp_of epoch g = record { epoch = epoch; gateway = g }
 -- prefix
 pub record IsFlush (g : ℕ) (c : List ℕ) (S : List Op) : Type 0 where
   pub begun : (epoch : ℕ) → visible c S ≡ Some (stamp_of epoch g)
-      → is_some (session_of (history c S)) ≡ true
+      → is_some (session_made (history c S)) ≡ true
   pub nothing_behind : (epoch k : ℕ) → visible c S ≡ Some (stamp_of epoch g)
       → length (history c S) ≤ k → operation_at c S (stamp_of epoch g, k) ≡ None
 
 -- the set is flush for gateway g: each client that g owns has a session, and no operation after
 -- a gap
-abbrev pub AreFlush : ℕ → List Op → Type 0
-AreFlush g S = (c : List ℕ) → IsFlush g c S
+abbrev pub HaveNoGap : ℕ → List Op → Type 0
+HaveNoGap g S = (c : List ℕ) → IsFlush g c S
 
 -- the session as seen, or the empty one, with these changes applied one after the other; without
 -- changes it is as it was

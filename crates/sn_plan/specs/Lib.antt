@@ -7,4 +7,5 @@ pub mod Others
 pub mod Own
 pub mod Plans
 pub mod Rows
+pub mod Scenes
 pub mod inner

@@ -65,9 +65,10 @@ write c g (Take session) w = taken c g session w
 write c g change w = counted c g change w
 
 -- these session operations, one after the other; none if an epoch is needed and the last is taken
-abbrev pub written : List ℕ → ℕ → List SessionOp → Written → Option Written
-written c g [] w = Some w
-written c g (change ∷ rest) w = option_and_then (written c g rest) (write c g change w)
+abbrev pub changes_written : List ℕ → ℕ → List SessionOp → Written → Option Written
+changes_written c g [] w = Some w
+changes_written c g (change ∷ rest) w =
+    option_and_then (changes_written c g rest) (write c g change w)
 
 -- the next counter of the visible stamp, if that is the gateway's own; else 256, so that a Take has
 -- to go first
@@ -177,4 +178,4 @@ rest_of g c seq clock d w =
 unfoldable pub planned : ℕ → List ℕ → ClientView → Option ℕ → (List ℕ → Option ℕ)
     → (List ℕ → Option ℕ) → Drafted → Option Plan
 planned g c v epoch seq clock d =
-    option_and_then (rest_of g c seq clock d) (written c g d.changes (start_of g v epoch))
+    option_and_then (rest_of g c seq clock d) (changes_written c g d.changes (start_of g v epoch))

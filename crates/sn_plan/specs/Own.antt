@@ -19,34 +19,34 @@ use Rattle.sn_plan.specs.Flush.{stamp_of}
 
 -- a session operation of the client under a stamp of the gateway; a message that the gateway made;
 -- an acknowledgement by the client; what the gateway retained
-abbrev pub IsOwn : ℕ → List ℕ → Op → Type 0
-IsOwn g c (OfSession d stamp counter change) = (d ≡ c) × (stamp.gateway ≡ g)
-IsOwn g c (OfPut d put) = put.origin ≡ g
-IsOwn g c (Ack d origin first last) = d ≡ c
-IsOwn g c (OfRetain t kept) = kept.gateway ≡ g
+abbrev pub IsOwnWrite : ℕ → List ℕ → Op → Type 0
+IsOwnWrite g c (OfSession d stamp counter change) = (d ≡ c) × (stamp.gateway ≡ g)
+IsOwnWrite g c (OfPut d put) = put.origin ≡ g
+IsOwnWrite g c (Ack d origin first last) = d ≡ c
+IsOwnWrite g c (OfRetain t kept) = kept.gateway ≡ g
 
 -- none of the client's session operations in the set is under a stamp of the gateway
 abbrev pub HasNoneOf : ℕ → List ℕ → List Op → Type 0
 HasNoneOf g c D = (epoch counter : ℕ) → operation_at c D (stamp_of epoch g, counter) ≡ None
 
 -- of the client's session operations under stamps of the gateway, D has none that S has not
-abbrev pub AddsNone : ℕ → List ℕ → List Op → List Op → Type 0
-AddsNone g c S D =
+abbrev pub AddsNothingOwn : ℕ → List ℕ → List Op → List Op → Type 0
+AddsNothingOwn g c S D =
     (epoch counter : ℕ) (change : SessionOp)
     → operation_at c D (stamp_of epoch g, counter) ≡ Some change
     → operation_at c S (stamp_of epoch g, counter) ≡ Some change
 
 -- the set has nothing under the name of the session operation or message, or of what is retained
-abbrev pub IsFresh : List Op → Op → Type 0
-IsFresh S (OfSession c stamp counter change) = operation_at c S (stamp, counter) ≡ None
-IsFresh S (OfPut c put) = put_at c S (put.seq, put.origin) ≡ None
-IsFresh S (Ack c origin first last) = Unit {0}
-IsFresh S (OfRetain t kept) = retain_at t S (clock_of kept) ≡ None
+abbrev pub IsFreshName : List Op → Op → Type 0
+IsFreshName S (OfSession c stamp counter change) = operation_at c S (stamp, counter) ≡ None
+IsFreshName S (OfPut c put) = put_at c S (put.seq, put.origin) ≡ None
+IsFreshName S (Ack c origin first last) = Unit {0}
+IsFreshName S (OfRetain t kept) = retain_at t S (clock_of kept) ≡ None
 
 -- each is fresh in the set with the operations before it, so no name occurs twice
 abbrev pub AreFresh : List Op → List Op → Type 0
 AreFresh S [] = Unit {0}
-AreFresh S (op ∷ rest) = IsFresh S op × AreFresh (S ++ op ∷ []) rest
+AreFresh S (op ∷ rest) = IsFreshName S op × AreFresh (S ++ op ∷ []) rest
 
 -- messages for clients that are all different
 abbrev pub IsOneEach : List NewPut → Type 0
@@ -56,7 +56,7 @@ IsOneEach (p ∷ rest) =
 
 -- what a draft may put and hand: messages for clients that are all different, and none of them
 -- where its own client is handed what was retained
-pub record IsApart (d : Drafted) : Type 0 where
+pub record PutsApart (d : Drafted) : Type 0 where
   pub one_each : IsOneEach d.puts
   pub alone : (d.handed ≡ []) ⊎ (d.puts ≡ [])
 
@@ -65,22 +65,18 @@ abbrev pub unnamed : List ℕ → Put → NewPut
 unnamed c put = record { client = c; topic = put.topic; qos = put.qos; body = put.body }
 
 -- the message of an operation, as the draft has it, but not where it was retained
-abbrev pub message_of : Op → Option NewPut
-message_of (OfSession c stamp counter change) = None
-message_of (OfPut c put) = if put.retain then None else Some (unnamed c put)
-message_of (Ack c origin first last) = None
-message_of (OfRetain t kept) = None
+abbrev pub new_message_of : Op → Option NewPut
+new_message_of (OfPut c put) = if put.retain then None else Some (unnamed c put)
+new_message_of op = None
 
 -- the messages of the operations, in their order
-abbrev pub messages : List Op → List NewPut
-messages ops = filter_map message_of ops
+abbrev pub new_messages : List Op → List NewPut
+new_messages ops = filter_map new_message_of ops
 
 -- the message by which the operation hands a client what was retained
 abbrev pub handed_of : Op → Option NewPut
-handed_of (OfSession c stamp counter change) = None
 handed_of (OfPut c put) = if put.retain then Some (unnamed c put) else None
-handed_of (Ack c origin first last) = None
-handed_of (OfRetain t kept) = None
+handed_of op = None
 
 -- the messages by which the operations hand a client what was retained, in their order
 abbrev pub handed_in : List Op → List NewPut
@@ -88,10 +84,8 @@ handed_in ops = filter_map handed_of ops
 
 -- what an operation retains, without clock and gateway
 abbrev pub posted_of : Op → Option Posted
-posted_of (OfSession c stamp counter change) = None
-posted_of (OfPut c put) = None
-posted_of (Ack c origin first last) = None
 posted_of (OfRetain t kept) = Some (record { topic = t; qos = kept.qos; body = kept.body })
+posted_of op = None
 
 -- what the operations retain, in their order
 abbrev pub retained_in : List Op → List Posted
@@ -99,26 +93,22 @@ retained_in ops = filter_map posted_of ops
 
 -- a message has this moment, from which on it need not wait
 abbrev pub HasMoment : ℕ → Op → Type 0
-HasMoment moment (OfSession c stamp counter change) = Unit {0}
 HasMoment moment (OfPut c put) = put.expires ≡ moment
-HasMoment moment (Ack c origin first last) = Unit {0}
-HasMoment moment (OfRetain t kept) = Unit {0}
+HasMoment moment op = Unit {0}
 
 -- the message waits for its client; or the client acknowledges it by one of these names
-abbrev pub Waits : List Op → List ℕ → List (ℕ × ℕ) → Op → Type 0
-Waits S c acks (OfSession d stamp counter change) = Unit {0}
-Waits S c acks (OfPut d put) =
+abbrev pub WaitsOrIsAcked : List Op → List ℕ → List (ℕ × ℕ) → Op → Type 0
+WaitsOrIsAcked S c acks (OfPut d put) =
     (pending_at d S (put.seq, put.origin) ≡ Some put)
     ⊎ ((d ≡ c) × Contains acks (put.seq, put.origin))
-Waits S c acks (Ack d origin first last) = Unit {0}
-Waits S c acks (OfRetain t kept) = Unit {0}
+WaitsOrIsAcked S c acks op = Unit {0}
 
 -- the plan is that of a draft for a client, with at most one message for each client, or what was
 -- retained for its own
 pub record IsOfDraft (g : ℕ) (seen : Seen) (plan : Plan) : Type 0 where
   pub client : List ℕ
   pub draft : Drafted
-  pub apart : IsApart draft
+  pub apart : PutsApart draft
   pub is : plan_of g client seen draft ≡ Some plan
 
 -- the row makes no message of a publication, and retains nothing

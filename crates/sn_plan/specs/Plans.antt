@@ -24,10 +24,11 @@ plan_of_puts g seen d =
     (with_retain g seen.clock d.retain []))
 
 -- Exhausted if and only if the definition has no plan; memory may run out at any time
-abbrev pub IsFault : {X : Type 0} → StepFault → Option X → Type 0
-IsFault Exhausted defined = defined ≡ None
-IsFault Memory defined = ⊤
+abbrev pub IsPlanFault : {X : Type 0} → StepFault → Option X → Type 0
+IsPlanFault Exhausted defined = defined ≡ None
+IsPlanFault Memory defined = ⊤
 
 -- the result is what the definition says, or a fault of it
-abbrev pub Gives : {X : Type 0} → Result X StepFault → Option X → Type 0
-Gives result defined = MatchResult result (λ x. defined ≡ Some x) (λ fault. IsFault fault defined)
+abbrev pub GivesPlan : {X : Type 0} → Result X StepFault → Option X → Type 0
+GivesPlan result defined =
+    MatchResult result (λ x. defined ≡ Some x) (λ fault. IsPlanFault fault defined)

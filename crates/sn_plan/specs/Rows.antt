@@ -25,8 +25,8 @@ abbrev pub row_lasting : ℕ → Row → Row
 row_lasting moment row = record row { draft = lasting moment row.draft }
 
 -- and then the client that is bound so far, if there is one, was heard of at this moment
-abbrev pub heard_row : Option (List ℕ) → ℕ → Row → Row
-heard_row bound now row = record row { draft = heard_of bound now row.draft }
+abbrev pub row_with_timer : Option (List ℕ) → ℕ → Row → Row
+row_with_timer bound now row = record row { draft = heard_of bound now row.draft }
 
 -- the plan of a draft for the client; without one that of what is retained, its messages, frames
 -- and local changes
@@ -39,14 +39,14 @@ abbrev pub plan_of_row : ℕ → Seen → Row → Option Plan
 plan_of_row g seen row = plan_for g seen row.draft row.client
 
 -- nothing is done
-abbrev pub quiet : Row
-quiet = row_of_none nothing
+abbrev pub empty_row : Row
+empty_row = row_of_none nothing
 
 -- a frame that asks for a bound client, from an address without one: DISCONNECT is the answer
 abbrev pub turned_away : Addr → Row
 turned_away a = row_of_none (sent a (frames.Disconnect None) nothing)
 
 -- a frame that nothing waits for: a bound client was heard of, another address is turned away
-abbrev pub stray : Addr → Option (List ℕ) → ℕ → Row
-stray a None now = turned_away a
-stray a (Some c) now = row_of Delivery c (moved (Heard c now) nothing)
+abbrev pub unexpected_row : Addr → Option (List ℕ) → ℕ → Row
+unexpected_row a None now = turned_away a
+unexpected_row a (Some c) now = row_of Delivery c (moved (Heard c now) nothing)

@@ -1,6 +1,6 @@
 //! What rows say of a client that is bound, or becomes so, and what they read of it.
 
-ghost use Rattle.std.specs.Prelude.{◌≡◌, IfOk, OnOk};
+ghost use Rattle.std.specs.Prelude.{◌≡◌, IfOk, OnOk, unwrap_or};
 ghost use Rattle.std.specs.Option.{option_copied};
 ghost use Rattle.sn_session.specs.Session.{empty_session};
 ghost use Rattle.rep_model.specs.Views.{view};
@@ -83,6 +83,17 @@ pub fn view_or<'a, R: Replica>(
 {
     match replica.view_of(client) {
         Some(view) => view,
+        None => otherwise,
+    }
+}
+
+/// The session of a view; the other one where it has none.
+pub fn session_in<'a>(view: &'a ClientView, otherwise: &'a Session) -> &'a Session
+    requires { otherwise.now ≡ empty_session }
+    ensures { result.now ≡ unwrap_or view.now.session empty_session }
+{
+    match &view.session {
+        Some(session) => session,
         None => otherwise,
     }
 }

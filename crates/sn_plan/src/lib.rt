@@ -6,6 +6,7 @@
 //! own. The *plan* is the result: operations, frames to send, local changes. Nothing of it is done
 //! here: who carries it out keeps the operations before a frame is sent.
 //!
+//! - `scene`: what a row reads beside its frame (`Scene`).
 //! - `draft`, `row`: what a row says (`Draft`, `Row`); `bound`: of a client that is bound.
 //! - `numbering`, `plan`: from a draft to a plan (`Plan`).
 //! - `asking`, `codes`: what requests ask for, and how they are answered; `limits`: how much is let
@@ -22,13 +23,18 @@ mod numbering;
 mod others;
 mod plan;
 mod row;
+mod scene;
 
 pub use asking::{Asked, id_in, name_asked, qos_asked, retain_asked, topics_asked};
-pub use bound::{bind_to, hear_of, session_or, unseen, view_or};
+pub use bound::{bind_to, hear_of, session_in, session_or, unseen, view_or};
 pub use codes::{ACCEPTED, CONGESTION, INVALID_ID, NOT_SUPPORTED};
 pub use draft::{Draft, NewPut, Posted};
 pub use limits::{MAX_PENDING, MAX_TOPICS};
 pub use numbering::apply;
 pub use others::{can_wake, is_up, other};
 pub use plan::{Plan, plan_of, plan_of_puts, plan_without};
-pub use row::{Follow, Row, heard_row, lasting_row, plan_of_row, quiet, stray, turn_away};
+pub use row::{
+    Follow, Row, bound_row, empty_row, lasting_row, plan_of_row, row_with_timer, turn_away,
+    unexpected_row,
+};
+pub use scene::Scene;

@@ -43,6 +43,16 @@ impl Model for Writer {
     } };
 }
 
+/// Whose new messages are numbered, and the moment from which they need not wait, in seconds; 0 for
+/// none.
+#[derive(Clone, Copy)]
+pub struct Origin {
+    /// The number of the gateway.
+    pub gateway: u8,
+    /// The moment.
+    pub expires: u64,
+}
+
 /// Changes the session. An operation that finds its table full leaves it as it was.
 pub fn apply(session: &mut Session, alloc: Global, change: &SessionOp) -> Result<(), NoMemory>
     ensures { OnOk result (session.new ≡ applied session.old change.now) }
@@ -68,7 +78,7 @@ fn one_more(n: u64) -> Option<u64>
 }
 
 impl Writer {
-    ghost use Rattle.sn_plan.specs.Numbering.{another, taken_at, taken, counted, write, written, start_of};
+    ghost use Rattle.sn_plan.specs.Numbering.{another, taken_at, taken, counted, write, changes_written, start_of};
     ghost use Rattle.rep_model.specs.Views.{unseen};
 
     /// At the start of a step.
@@ -255,7 +265,8 @@ impl Writer {
         client: &ClientId,
         changes: Vec<SessionOp>,
     ) -> Result<(), StepFault>
-        ensures { Becomes result self.new (written client.now gateway changes.items self.old) }
+        ensures { Becomes result self.new
+            (changes_written client.now gateway changes.items self.old) }
     {
         for change in changes {
             self.write(alloc, gateway, client, change)?;
@@ -306,15 +317,14 @@ pub fn number_puts<R: Replica>(
 /// Appends a message that the client is handed, under this number.
 fn hand(
     alloc: Global,
-    gateway: u8,
-    expires: u64,
+    origin: Origin,
     client: &ClientId,
     seq: u64,
     posted: Posted,
     ops: &mut Vec<Op>,
 ) -> Result<(), NoMemory>
-    ensures { OnOk result (ops.new.items
-        ≡ ops.old.items ++ handed_at_seq gateway expires client.now posted seq ∷ []) }
+    ensures { OnOk result (ops.new.items ≡ ops.old.items
+        ++ handed_at_seq origin.gateway origin.expires client.now posted seq ∷ []) }
 {
     let client = match client.copied(alloc) {
         Ok(client) => client,
@@ -325,12 +335,12 @@ fn hand(
     };
     let Posted { topic, qos, body } = posted;
     let put = Put {
-        origin: gateway,
+        origin: origin.gateway,
         seq,
         topic,
         qos,
         retain: true,
-        expires,
+        expires: origin.expires,
         body,
     };
     push(ops, Op::Put { client, put })?;
@@ -341,26 +351,25 @@ fn hand(
 /// number after the one before.
 pub fn number_handed<R: Replica>(
     alloc: Global,
-    gateway: u8,
-    expires: u64,
+    origin: Origin,
     replica: &R,
     client: &ClientId,
     handed: Vec<Posted>,
     ops: &mut Vec<Op>,
 ) -> Result<(), StepFault>
-    ensures { Becomes result ops.new.items (with_handed gateway expires client.now
-        (next_seq client.now gateway (R.kept replica.now)) handed.items ops.old.items) }
+    ensures { Becomes result ops.new.items (with_handed origin.gateway origin.expires client.now
+        (next_seq client.now origin.gateway (R.kept replica.now)) handed.items ops.old.items) }
 {
     if handed.is_empty() {
         return Ok(());
     }
-    let mut next = replica.next_seq(client, gateway);
+    let mut next = replica.next_seq(client, origin.gateway);
     for posted in handed {
         let Some(seq) = next else {
             drop(posted);
             return Err(StepFault::Exhausted);
         };
-        hand(alloc, gateway, expires, client, seq, posted, ops)?;
+        hand(alloc, origin, client, seq, posted, ops)?;
         next = one_more(seq);
     }
     Ok(())

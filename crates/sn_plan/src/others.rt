@@ -5,12 +5,13 @@ ghost use Rattle.sn_plan.specs.Others as spec;
 ghost use Rattle.rep_model.specs.Views.{view};
 
 use super::draft::Draft;
-use super::row::{Row, quiet, stray};
+use super::row::{Row, empty_row, unexpected_row};
+use super::scene::Scene;
 use octets::{NoMemory, Octets};
 use rep_model::Replica;
 use rep_model::rep_ops::ClientId;
 use sn_frame::Frame;
-use sn_local::{Addr, Config, Dialogs};
+use sn_local::{Addr, Config};
 use sn_session::Presence;
 use std::alloc::Global;
 
@@ -29,29 +30,27 @@ fn searched(alloc: Global, config: &Config, to: Addr) -> Result<Row, NoMemory>
 
 /// SEARCHGW, the frames that only go from a gateway to a client or between others, and every frame
 /// that no other call is for.
-pub fn other(
+pub fn other<R: Replica>(
     alloc: Global,
-    config: &Config,
-    dialogs: &Dialogs,
-    from: Addr,
+    scene: &Scene<'_, R>,
     frame: &Frame,
-    now: u64,
 ) -> Result<Row, NoMemory>
-    ensures { IfOk result (λ row. row ≡ spec.other config.now.gateway dialogs.now.local from
-        frame.now now) }
+    ensures { IfOk result (λ row. row ≡ spec.other scene.now.config.now.gateway
+        scene.now.dialogs.now.local scene.now.from frame.now scene.now.moment) }
 {
+    let from = scene.from;
     match frame {
-        Frame::SearchGw { .. } => searched(alloc, config, from),
-        Frame::Advertise { .. } => Ok(quiet(alloc)),
-        Frame::GwInfo { .. } => Ok(quiet(alloc)),
-        Frame::ConnAck { .. } => Ok(quiet(alloc)),
-        Frame::WillTopicReq => Ok(quiet(alloc)),
-        Frame::WillMsgReq => Ok(quiet(alloc)),
-        Frame::SubAck { .. } => Ok(quiet(alloc)),
-        Frame::UnsubAck { .. } => Ok(quiet(alloc)),
-        Frame::WillTopicResp { .. } => Ok(quiet(alloc)),
-        Frame::WillMsgResp { .. } => Ok(quiet(alloc)),
-        _ => stray(alloc, from, dialogs.client_at(from), now),
+        Frame::SearchGw { .. } => searched(alloc, scene.config, from),
+        Frame::Advertise { .. } => Ok(empty_row(alloc)),
+        Frame::GwInfo { .. } => Ok(empty_row(alloc)),
+        Frame::ConnAck { .. } => Ok(empty_row(alloc)),
+        Frame::WillTopicReq => Ok(empty_row(alloc)),
+        Frame::WillMsgReq => Ok(empty_row(alloc)),
+        Frame::SubAck { .. } => Ok(empty_row(alloc)),
+        Frame::UnsubAck { .. } => Ok(empty_row(alloc)),
+        Frame::WillTopicResp { .. } => Ok(empty_row(alloc)),
+        Frame::WillMsgResp { .. } => Ok(empty_row(alloc)),
+        _ => unexpected_row(alloc, from, scene.dialogs.client_at(from), scene.moment),
     }
 }
 

@@ -7,11 +7,11 @@ ghost use Rattle.rep_model.specs.Fresh.{next_clock, next_epoch, next_seq};
 ghost use Rattle.sn_plan.specs.Numbering.{start_of, with_puts, with_handed, with_retain, numbered, ack_of, plan_with};
 ghost use Rattle.sn_plan.specs.inner.Plans.{Becomes};
 ghost use Rattle.sn_local.specs.Seen.{seen_of};
-ghost use Rattle.sn_plan.specs.Plans.{Gives};
+ghost use Rattle.sn_plan.specs.Plans.{GivesPlan};
 ghost use Rattle.sn_plan.specs.Plans as spec;
 
 use super::draft::{Draft, NewPut, Posted};
-use super::numbering::{Writer, append_acks, number_handed, number_puts, number_retain};
+use super::numbering::{Origin, Writer, append_acks, number_handed, number_puts, number_retain};
 use octets::{NoMemory, Sequence};
 use rep_model::Replica;
 use rep_model::rep_ops::{ClientId, Op};
@@ -27,6 +27,17 @@ pub struct Plan {
     pub sends: Sequence<Send>,
     /// The changes of the local state, in their order.
     pub local: Sequence<LocalChange>,
+}
+
+/// The parts of a draft that need new numbers.
+#[derive(Drop)]
+struct Unnumbered {
+    /// What the client is handed.
+    handed: Vec<Posted>,
+    /// What is retained.
+    retain: Option<Posted>,
+    /// The messages.
+    puts: Vec<NewPut>,
 }
 
 /// The writer of a client's session operations, at the start of a step.
@@ -69,27 +80,32 @@ fn number_posts<R: Replica>(
 /// Appends what needs new numbers: what the client is handed, what is retained, the messages.
 fn number_all<R: Replica>(
     alloc: Global,
-    gateway: u8,
-    expires: u64,
+    origin: Origin,
     replica: &R,
     client: &ClientId,
-    handed: Vec<Posted>,
-    retain: Option<Posted>,
-    puts: Vec<NewPut>,
+    unnumbered: Unnumbered,
     ops: &mut Vec<Op>,
 ) -> Result<(), StepFault>
     ensures { Becomes result ops.new.items (option_and_then
-        (with_puts gateway expires (λ e. next_seq e gateway (R.kept replica.now)) puts.items)
-        (option_and_then (with_retain gateway (λ t. next_clock t (R.kept replica.now)) retain)
-        (with_handed gateway expires client.now
-        (next_seq client.now gateway (R.kept replica.now)) handed.items ops.old.items))) }
+        (with_puts origin.gateway origin.expires
+        (λ e. next_seq e origin.gateway (R.kept replica.now)) unnumbered.puts.items)
+        (option_and_then (with_retain origin.gateway (λ t. next_clock t (R.kept replica.now))
+        unnumbered.retain)
+        (with_handed origin.gateway origin.expires client.now
+        (next_seq client.now origin.gateway (R.kept replica.now)) unnumbered.handed.items
+        ops.old.items))) }
 {
-    if let Err(fault) = number_handed(alloc, gateway, expires, replica, client, handed, ops) {
+    let Unnumbered {
+        handed,
+        retain,
+        puts,
+    } = unnumbered;
+    if let Err(fault) = number_handed(alloc, origin, replica, client, handed, ops) {
         drop(retain);
         drop(puts);
         return Err(fault);
     }
-    number_posts(gateway, expires, replica, retain, puts, ops)
+    number_posts(origin.gateway, origin.expires, replica, retain, puts, ops)
 }
 
 /// The plan once the session operations are written.
@@ -101,7 +117,7 @@ fn rest_of<R: Replica>(
     mut ops: Vec<Op>,
     draft: Draft,
 ) -> Result<Plan, StepFault>
-    ensures { Gives result (option_map (plan_with draft)
+    ensures { GivesPlan result (option_map (plan_with draft)
         (numbered gateway client.now (λ e. next_seq e gateway (R.kept replica.now))
         (λ t. next_clock t (R.kept replica.now)) draft
         (ops.items ++ map (ack_of client.now) draft.acks))) }
@@ -117,9 +133,13 @@ fn rest_of<R: Replica>(
         local,
     } = draft;
     append_acks(alloc, client, acks.as_slice(), &mut ops)?;
-    number_all(
-        alloc, gateway, expires, replica, client, handed, retain, puts, &mut ops,
-    )?;
+    let origin = Origin { gateway, expires };
+    let unnumbered = Unnumbered {
+        handed,
+        retain,
+        puts,
+    };
+    number_all(alloc, origin, replica, client, unnumbered, &mut ops)?;
     Ok(Plan {
         ops: Sequence::new(ops),
         sends: Sequence::new(sends),
@@ -136,7 +156,8 @@ pub fn plan_of<R: Replica>(
     client: &ClientId,
     mut draft: Draft,
 ) -> Result<Plan, StepFault>
-    ensures { Gives result (spec.plan_of gateway client.now (seen_of (R.kept replica.now)) draft) }
+    ensures { GivesPlan result
+        (spec.plan_of gateway client.now (seen_of (R.kept replica.now)) draft) }
 {
     if draft.changes_nothing() {
         return rest_of(alloc, gateway, replica, client, Vec::new(alloc), draft);
@@ -164,7 +185,7 @@ pub fn plan_of_puts<R: Replica>(
     replica: &R,
     draft: Draft,
 ) -> Result<Plan, StepFault>
-    ensures { Gives result (spec.plan_of_puts gateway (seen_of (R.kept replica.now)) draft) }
+    ensures { GivesPlan result (spec.plan_of_puts gateway (seen_of (R.kept replica.now)) draft) }
 {
     let Draft {
         changes: _,

@@ -1,9 +1,10 @@
 //! A row of the step table: its client, its draft, and what follows it.
 
-ghost use Rattle.std.specs.Prelude.{◌≡◌, IfOk};
+ghost use Rattle.std.specs.Prelude.{◌≡◌, Some, IfOk};
 ghost use Rattle.std.specs.Option.{option_copied};
 ghost use Rattle.sn_local.specs.Seen.{seen_of};
-ghost use Rattle.sn_plan.specs.Plans.{Gives};
+ghost use Rattle.sn_plan.specs.Plans.{GivesPlan};
+ghost use Rattle.sn_plan.specs.declared.row.Follow.TheVariants as follows;
 ghost use Rattle.sn_plan.specs.Rows.{turned_away};
 ghost use Rattle.sn_plan.specs.Rows as spec;
 
@@ -87,13 +88,14 @@ pub fn lasting_row(mut row: Row, expires: u64) -> Row
 }
 
 /// The row of a frame from an address that may be bound: its client was heard of.
-pub fn heard_row(
+pub fn row_with_timer(
     alloc: Global,
     bound: Option<&ClientId>,
     now: u64,
     mut row: Row,
 ) -> Result<Row, NoMemory>
-    ensures { IfOk result (λ heard. heard ≡ spec.heard_row (option_copied bound.entry) now row) }
+    ensures { IfOk result
+        (λ heard. heard ≡ spec.row_with_timer (option_copied bound.entry) now row) }
 {
     match hear_of(alloc, &mut row.draft, bound, now) {
         Ok(()) => Ok(row),
@@ -104,6 +106,15 @@ pub fn heard_row(
     }
 }
 
+/// The row of a bound client: it was heard of, and Delivery follows.
+pub fn bound_row(alloc: Global, client: &ClientId, now: u64, draft: Draft) -> Result<Row, NoMemory>
+    ensures { IfOk result (λ row. row ≡ spec.row_with_timer (Some client.now) now
+        (spec.row_of follows.Delivery client.now draft)) }
+{
+    let row = Row::new(alloc, Follow::Delivery, client, draft)?;
+    row_with_timer(alloc, Some(client), now, row)
+}
+
 /// The plan of a row, without what follows it.
 pub fn plan_of_row<R: Replica>(
     alloc: Global,
@@ -111,7 +122,7 @@ pub fn plan_of_row<R: Replica>(
     replica: &R,
     row: Row,
 ) -> Result<Plan, StepFault>
-    ensures { Gives result (spec.plan_of_row gateway (seen_of (R.kept replica.now)) row) }
+    ensures { GivesPlan result (spec.plan_of_row gateway (seen_of (R.kept replica.now)) row) }
 {
     let Row {
         client,
@@ -125,8 +136,8 @@ pub fn plan_of_row<R: Replica>(
 }
 
 /// Nothing is done.
-pub fn quiet(alloc: Global) -> Row
-    ensures { result ≡ spec.quiet }
+pub fn empty_row(alloc: Global) -> Row
+    ensures { result ≡ spec.empty_row }
 {
     Row::of_none(Draft::new(alloc))
 }
@@ -140,8 +151,13 @@ pub fn turn_away(alloc: Global, to: Addr) -> Result<Row, NoMemory>
 }
 
 /// A frame that nothing waits for: a bound client was heard of, another address is turned away.
-pub fn stray(alloc: Global, from: Addr, bound: Option<&ClientId>, now: u64) -> Result<Row, NoMemory>
-    ensures { IfOk result (λ row. row ≡ spec.stray from (option_copied bound.entry) now) }
+pub fn unexpected_row(
+    alloc: Global,
+    from: Addr,
+    bound: Option<&ClientId>,
+    now: u64,
+) -> Result<Row, NoMemory>
+    ensures { IfOk result (λ row. row ≡ spec.unexpected_row from (option_copied bound.entry) now) }
 {
     match bound {
         None => turn_away(alloc, from),

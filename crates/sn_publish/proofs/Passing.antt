@@ -11,10 +11,10 @@ use Rattle.rep_model.specs.Views.{view, clients}
 use Rattle.rep_model.specs.Asking.{is_subscribed, NoneAsks, IsCandidate}
 use Rattle.sn_plan.specs.declared.draft.NewPut.{NewPut}
 use Rattle.sn_local.specs.Seen.{seen_of}
-use Rattle.sn_publish.specs.Recipients.{qos_at, qos_in, qos_for, message_for, puts_among}
+use Rattle.sn_publish.specs.Recipients.{effective_qos, qos_in, qos_for, message_for, puts_among}
 
 module _ (topic : List ℕ) (qos : ℕ) where
-  none_asked : (pending : List Put) (s : Session) (asked : Option ℕ) → is_some asked ≡ false → option_and_then (qos_at pending qos s) asked ≡ None
+  none_asked : (pending : List Put) (s : Session) (asked : Option ℕ) → is_some asked ≡ false → option_and_then (effective_qos pending qos s) asked ≡ None
   none_asked pending s None e = refl
   none_asked pending s (Some q) e = absurd (true≢false e)
 

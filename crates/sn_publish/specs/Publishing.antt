@@ -1,7 +1,7 @@
 -- The rows of PUBLISH and PUBREL from a client (MQTT-SN 1.2 sections 6.6, 6.8 and 6.10).
 use Rattle.std.specs.Prelude.{ℕ, Bool, ◌/◌, ◌%◌, if◌then◌else◌, List, [], ◌∷◌, Option, Some, None}
 use Rattle.std.specs.Option.{option_map}
-use Rattle.sn_topic.specs.Table.{Entries, name_of}
+use Rattle.sn_topic.specs.Table.{Entries, name_of_id}
 use Rattle.sn_topic.specs.Topics.{name_asked}
 use Rattle.sn_session.specs.declared.session.Session.{Session}
 use Rattle.sn_tables.specs.declared.topics.TopicEntry.{TopicEntry}
@@ -27,9 +27,9 @@ use Rattle.sn_publish.specs.Recipients.{puts_for}
 use Rattle.sn_publish.specs.Retaining.{retained_of}
 
 -- the topic of this name; code 2, invalid topic id, if there is none
-abbrev pub named : Option (List ℕ) → Meant
-named None = Refused 2
-named (Some name) = Topic name
+abbrev pub topic_or_refused : Option (List ℕ) → Meant
+topic_or_refused None = Refused 2
+topic_or_refused (Some name) = Topic name
 
 -- the name in the two octets of a topic field
 abbrev pub short_name : ℕ → List ℕ
@@ -44,9 +44,9 @@ entry_name entry = entry.name
 -- the type has no meaning.
 abbrev pub topic_meant : Entries → Session → TopicIdType → ℕ → Meant
 topic_meant predefined s kinds.Normal topic =
-    named (option_map entry_name (topic_of topic s.topics))
-topic_meant predefined s kinds.Predefined topic = named (name_of topic predefined)
-topic_meant predefined s kinds.Short topic = named (name_asked (short_name topic))
+    topic_or_refused (option_map entry_name (topic_of topic s.topics))
+topic_meant predefined s kinds.Predefined topic = topic_or_refused (name_of_id topic predefined)
+topic_meant predefined s kinds.Short topic = topic_or_refused (name_asked (short_name topic))
 topic_meant predefined s kinds.Reserved topic = Refused 3
 
 -- the topic of a PUBLISH; code 3, not supported, if the message has more than 4,096 octets
@@ -66,18 +66,18 @@ posted seen asked name qos body =
     (put_all (puts_for seen name qos body) nothing)
 
 -- at most once: the recipients get it, and there is no answer
-abbrev pub spread : Seen → Bool → List ℕ → List ℕ → Drafted
-spread seen asked name body = posted seen asked name 0 body
+abbrev pub publish_at_0 : Seen → Bool → List ℕ → List ℕ → Drafted
+publish_at_0 seen asked name body = posted seen asked name 0 body
 
 -- at least once: the recipients get it, and PUBACK says so
-abbrev pub spread_once : Seen → Bool → Addr → ℕ → ℕ → List ℕ → List ℕ → Drafted
-spread_once seen asked a topic msg_id body name =
+abbrev pub publish_at_1 : Seen → Bool → Addr → ℕ → ℕ → List ℕ → List ℕ → Drafted
+publish_at_1 seen asked a topic msg_id body name =
     sent a (frames.PubAck topic msg_id 0) (posted seen asked name 1 body)
 
 -- Exactly once. If the message id was received and is not released yet, the recipients have the
 -- message, and PUBREC says so. Code 1, congestion, if there are 256 message ids.
-abbrev pub spread_twice : Seen → Bool → Addr → Session → ℕ → ℕ → List ℕ → List ℕ → Drafted
-spread_twice seen asked a s topic msg_id body name =
+abbrev pub publish_at_2 : Seen → Bool → Addr → Session → ℕ → ℕ → List ℕ → List ℕ → Drafted
+publish_at_2 seen asked a s topic msg_id body name =
     if is_received msg_id s.received then sent a (frames.PubRec msg_id) nothing
     else (if id_has_no_room msg_id s.received then sent a (frames.PubAck topic msg_id 1) nothing
     else sent a (frames.PubRec msg_id)
@@ -85,12 +85,12 @@ spread_twice seen asked a s topic msg_id body name =
 
 -- a PUBLISH of this topic by its quality of service; -1 counts as 0
 abbrev pub publish_at : Seen → Bool → Addr → Session → ℕ → ℕ → List ℕ → List ℕ → Qos → Drafted
-publish_at seen asked a s topic msg_id body name levels.Zero = spread seen asked name body
+publish_at seen asked a s topic msg_id body name levels.Zero = publish_at_0 seen asked name body
 publish_at seen asked a s topic msg_id body name levels.One =
-    spread_once seen asked a topic msg_id body name
+    publish_at_1 seen asked a topic msg_id body name
 publish_at seen asked a s topic msg_id body name levels.Two =
-    spread_twice seen asked a s topic msg_id body name
-publish_at seen asked a s topic msg_id body name levels.MinusOne = spread seen asked name body
+    publish_at_2 seen asked a s topic msg_id body name
+publish_at seen asked a s topic msg_id body name levels.MinusOne = publish_at_0 seen asked name body
 
 -- a refusal is a PUBACK with the code, at every quality of service
 abbrev pub publish_meant : Seen → Bool → Addr → Session → ℕ → ℕ → List ℕ → Qos → Meant → Drafted
@@ -108,7 +108,7 @@ publish predefined seen a s bits topic msg_id body =
 -- the recipients get it, at most once; nothing is done if the PUBLISH is refused
 abbrev pub spread_meant : Seen → Bool → List ℕ → Meant → Drafted
 spread_meant seen asked body (Refused code) = nothing
-spread_meant seen asked body (Topic name) = spread seen asked name body
+spread_meant seen asked body (Topic name) = publish_at_0 seen asked name body
 
 -- PUBLISH without a connection, by a predefined id or a short name: the recipients get it, at most
 -- once, and nothing is answered

@@ -23,13 +23,13 @@ admitted pending presence qos =
 
 -- the effective quality of service is the smaller of that of the publication and the one subscribed
 -- to
-abbrev pub qos_at : List Put → ℕ → Session → ℕ → Option ℕ
-qos_at pending qos s asked = admitted pending s.presence (min qos asked)
+abbrev pub effective_qos : List Put → ℕ → Session → ℕ → Option ℕ
+effective_qos pending qos s asked = admitted pending s.presence (min qos asked)
 
 -- the quality of service at which this session gets the publication; none if it does not get it
 abbrev pub qos_in : List Put → List ℕ → ℕ → Session → Option ℕ
 qos_in pending topic qos s =
-    option_and_then (qos_at pending qos s) (subscribed_qos topic s.subscriptions)
+    option_and_then (effective_qos pending qos s) (subscribed_qos topic s.subscriptions)
 
 -- the quality of service at which a client gets the publication; none if it is no recipient
 abbrev pub qos_for : List ℕ → ℕ → ClientView → Option ℕ

@@ -12,6 +12,6 @@ mod recipients;
 mod retaining;
 
 pub use meaning::{Meant, topic_meant};
-pub use publishing::{publish, publish_unconnected, pubrel};
+pub use publishing::{Publication, publish, publish_unconnected, pubrel};
 pub use recipients::{puts_for, puts_of_will};
 pub use retaining::{retained_of, retained_of_will};

@@ -24,8 +24,8 @@ pub enum Meant {
 }
 
 /// The topic of this name.
-fn named(alloc: Global, name: Option<&TopicName>) -> Result<Meant, NoMemory>
-    ensures { IfOk result (λ meant. meant ≡ spec.named (option_copied name.entry)) }
+fn topic_or_refused(alloc: Global, name: Option<&TopicName>) -> Result<Meant, NoMemory>
+    ensures { IfOk result (λ meant. meant ≡ spec.topic_or_refused (option_copied name.entry)) }
 {
     match name {
         None => Ok(Meant::Refused(2)),
@@ -35,19 +35,19 @@ fn named(alloc: Global, name: Option<&TopicName>) -> Result<Meant, NoMemory>
 
 /// The topic of an id of the session.
 fn by_entry(alloc: Global, session: &Session, id: u16) -> Result<Meant, NoMemory>
-    ensures { IfOk result (λ meant. meant ≡ spec.named
+    ensures { IfOk result (λ meant. meant ≡ spec.topic_or_refused
         (option_map entry_name (topic_of id session.now.topics))) }
 {
     match session.topic_of(id) {
-        None => named(alloc, None),
-        Some(entry) => named(alloc, Some(&entry.name)),
+        None => topic_or_refused(alloc, None),
+        Some(entry) => topic_or_refused(alloc, Some(&entry.name)),
     }
 }
 
 /// The topic of a short name.
 fn by_short(alloc: Global, topic: u16) -> Result<Meant, NoMemory>
     ensures { IfOk result
-        (λ meant. meant ≡ spec.named (topic_names.name_asked (spec.short_name topic))) }
+        (λ meant. meant ≡ spec.topic_or_refused (topic_names.name_asked (spec.short_name topic))) }
 {
     let octets = [(topic / 256) as u8, (topic % 256) as u8];
     match name_asked(alloc, &octets)? {
@@ -70,7 +70,7 @@ pub fn topic_meant(
 {
     match kind {
         TopicIdType::Normal => by_entry(alloc, session, topic),
-        TopicIdType::Predefined => named(alloc, predefined.name(topic)),
+        TopicIdType::Predefined => topic_or_refused(alloc, predefined.name(topic)),
         TopicIdType::Short => by_short(alloc, topic),
         TopicIdType::Reserved => Ok(Meant::Refused(3)),
     }

@@ -1,8 +1,11 @@
 //! PUBLISH and PUBREL from a client (MQTT-SN 1.2 sections 6.6, 6.8 and 6.10).
 
 ghost use Rattle.std.specs.Prelude.{◌≡◌, IfOk, OnOk};
+ghost use Rattle.sn_frame.specs.FlagBits.{qos_of};
 ghost use Rattle.sn_local.specs.Seen.{seen_of};
+ghost use Rattle.sn_plan.specs.Asking.{retain_asked as is_retain_asked};
 ghost use Rattle.sn_plan.specs.Drafts.{changed, changed_if, nothing, put_all, sent};
+ghost use Rattle.sn_plan.specs.Scenes.{seen_in};
 ghost use Rattle.sn_frame.specs.declared.frame.Frame.TheVariants.{PubAck, PubComp, PubRec};
 ghost use Rattle.sn_session.specs.declared.change.SessionOp.TheVariants.{Received};
 ghost use Rattle.sn_publish.specs.declared.meaning.Meant.TheVariants.{Topic};
@@ -16,11 +19,24 @@ use octets::{NoMemory, Octets};
 use rep_model::Replica;
 use sn_frame::{Flags, Frame, Qos};
 use sn_local::Addr;
-use sn_plan::{Draft, retain_asked};
+use sn_plan::{Draft, Scene, retain_asked};
 use sn_session::{Message, Session, SessionOp};
 use sn_tables::QosLevel;
-use sn_topic::{Predefined, TopicName};
+use sn_topic::TopicName;
 use std::alloc::Global;
+
+/// A PUBLISH, as its frame says it.
+#[derive(Clone, Copy)]
+pub struct Publication<'a> {
+    /// Its flags.
+    pub flags: Flags,
+    /// Its topic field.
+    pub topic: u16,
+    /// Its message id.
+    pub msg_id: u16,
+    /// What is published.
+    pub body: &'a Octets,
+}
 
 /// The messages of a publication, as a draft.
 fn puts_draft<R: Replica>(
@@ -71,14 +87,14 @@ fn posted<R: Replica>(
 }
 
 /// At most once: the recipients get it.
-fn spread<R: Replica>(
+fn publish_at_0<R: Replica>(
     alloc: Global,
     replica: &R,
     asked: bool,
     name: &TopicName,
     body: &Message,
 ) -> Result<Draft, NoMemory>
-    ensures { IfOk result (λ draft. draft ≡ spec.spread (seen_of (R.kept replica.now)) asked
+    ensures { IfOk result (λ draft. draft ≡ spec.publish_at_0 (seen_of (R.kept replica.now)) asked
         name.now body.now) }
 {
     posted(alloc, replica, asked, name, QosLevel::zero(), body)
@@ -109,26 +125,25 @@ fn receive(alloc: Global, to: Addr, msg_id: u16, draft: &mut Draft) -> Result<()
 }
 
 /// At least once: the recipients get it, and PUBACK says so.
-fn spread_once<R: Replica>(
+fn publish_at_1<R: Replica>(
     alloc: Global,
-    replica: &R,
-    asked: bool,
-    to: Addr,
-    topic_id: u16,
-    msg_id: u16,
+    scene: &Scene<'_, R>,
+    publication: &Publication<'_>,
     body: &Message,
     name: &TopicName,
 ) -> Result<Draft, NoMemory>
-    ensures { IfOk result (λ draft. draft ≡ spec.spread_once (seen_of (R.kept replica.now)) asked
-        to topic_id msg_id body.now name.now) }
+    ensures { IfOk result (λ draft. draft ≡ spec.publish_at_1 (seen_in R.kept scene.now)
+        (is_retain_asked publication.now.flags.bits) scene.now.from publication.now.topic
+        publication.now.msg_id body.now name.now) }
 {
-    let mut draft = posted(alloc, replica, asked, name, QosLevel::one(), body)?;
+    let asked = retain_asked(publication.flags);
+    let mut draft = posted(alloc, scene.replica, asked, name, QosLevel::one(), body)?;
     let answer = Frame::PubAck {
-        topic_id,
-        msg_id,
+        topic_id: publication.topic,
+        msg_id: publication.msg_id,
         code: 0,
     };
-    match draft.send(alloc, to, answer) {
+    match draft.send(alloc, scene.from, answer) {
         Ok(()) => Ok(draft),
         Err(_) => {
             drop(draft);
@@ -139,27 +154,28 @@ fn spread_once<R: Replica>(
 
 /// Exactly once: the recipients get it, where they have not got it under this message id, and
 /// PUBREC says so.
-fn spread_twice<R: Replica>(
+fn publish_at_2<R: Replica>(
     alloc: Global,
-    replica: &R,
-    asked: bool,
-    to: Addr,
+    scene: &Scene<'_, R>,
     session: &Session,
-    topic_id: u16,
-    msg_id: u16,
+    publication: &Publication<'_>,
     body: &Message,
     name: &TopicName,
 ) -> Result<Draft, NoMemory>
-    ensures { IfOk result (λ draft. draft ≡ spec.spread_twice (seen_of (R.kept replica.now)) asked
-        to session.now topic_id msg_id body.now name.now) }
+    ensures { IfOk result (λ draft. draft ≡ spec.publish_at_2 (seen_in R.kept scene.now)
+        (is_retain_asked publication.now.flags.bits) scene.now.from session.now
+        publication.now.topic publication.now.msg_id body.now name.now) }
 {
+    let to = scene.from;
+    let msg_id = publication.msg_id;
     if session.is_received(msg_id) {
         return Draft::reply(alloc, to, Frame::PubRec { msg_id });
     }
     if session.received.has_no_room(msg_id) {
-        return puback(alloc, to, topic_id, msg_id, 1);
+        return puback(alloc, to, publication.topic, msg_id, 1);
     }
-    let mut draft = posted(alloc, replica, asked, name, QosLevel::two(), body)?;
+    let asked = retain_asked(publication.flags);
+    let mut draft = posted(alloc, scene.replica, asked, name, QosLevel::two(), body)?;
     match receive(alloc, to, msg_id, &mut draft) {
         Ok(()) => Ok(draft),
         Err(fault) => {
@@ -172,52 +188,44 @@ fn spread_twice<R: Replica>(
 /// A publication at this quality of service.
 fn publish_at<R: Replica>(
     alloc: Global,
-    replica: &R,
-    asked: bool,
-    to: Addr,
+    scene: &Scene<'_, R>,
     session: &Session,
-    topic_id: u16,
-    msg_id: u16,
+    publication: &Publication<'_>,
     body: &Message,
     name: &TopicName,
-    qos: Qos,
 ) -> Result<Draft, NoMemory>
-    ensures { IfOk result (λ draft. draft ≡ spec.publish_at (seen_of (R.kept replica.now)) asked
-        to session.now topic_id msg_id body.now name.now qos) }
+    ensures { IfOk result (λ draft. draft ≡ spec.publish_at (seen_in R.kept scene.now)
+        (is_retain_asked publication.now.flags.bits) scene.now.from session.now
+        publication.now.topic publication.now.msg_id body.now name.now
+        (qos_of publication.now.flags.bits)) }
 {
-    match qos {
-        Qos::Zero => spread(alloc, replica, asked, name, body),
-        Qos::One => spread_once(alloc, replica, asked, to, topic_id, msg_id, body, name),
-        Qos::Two => spread_twice(
-            alloc, replica, asked, to, session, topic_id, msg_id, body, name,
-        ),
-        Qos::MinusOne => spread(alloc, replica, asked, name, body),
+    let asked = retain_asked(publication.flags);
+    match publication.flags.qos() {
+        Qos::Zero => publish_at_0(alloc, scene.replica, asked, name, body),
+        Qos::One => publish_at_1(alloc, scene, publication, body, name),
+        Qos::Two => publish_at_2(alloc, scene, session, publication, body, name),
+        Qos::MinusOne => publish_at_0(alloc, scene.replica, asked, name, body),
     }
 }
 
 /// A publication on this topic. A message of more than 4,096 octets is refused.
 fn publish_on<R: Replica>(
     alloc: Global,
-    replica: &R,
-    asked: bool,
-    to: Addr,
+    scene: &Scene<'_, R>,
     session: &Session,
-    topic_id: u16,
-    msg_id: u16,
-    body: &Octets,
+    publication: &Publication<'_>,
     name: &TopicName,
-    qos: Qos,
 ) -> Result<Draft, NoMemory>
-    ensures { IfOk result (λ draft. draft ≡ spec.publish_meant (seen_of (R.kept replica.now)) asked
-        to session.now topic_id msg_id body.now qos
-        (spec.within_limit body.now (Topic name.now))) }
+    ensures { IfOk result (λ draft. draft ≡ spec.publish_meant (seen_in R.kept scene.now)
+        (is_retain_asked publication.now.flags.bits) scene.now.from session.now
+        publication.now.topic publication.now.msg_id publication.now.body.now
+        (qos_of publication.now.flags.bits)
+        (spec.within_limit publication.now.body.now (Topic name.now))) }
 {
-    match Message::new(body.copied(alloc)?) {
-        None => puback(alloc, to, topic_id, msg_id, 3),
+    match Message::new(publication.body.copied(alloc)?) {
+        None => puback(alloc, scene.from, publication.topic, publication.msg_id, 3),
         Some(body) => {
-            let draft = publish_at(
-                alloc, replica, asked, to, session, topic_id, msg_id, &body, name, qos,
-            );
+            let draft = publish_at(alloc, scene, session, publication, &body, name);
             drop(body);
             draft
         }
@@ -227,25 +235,26 @@ fn publish_on<R: Replica>(
 /// A publication on what its topic field is about. A message of more than 4,096 octets is refused.
 fn publish_meant<R: Replica>(
     alloc: Global,
-    replica: &R,
-    asked: bool,
-    to: Addr,
+    scene: &Scene<'_, R>,
     session: &Session,
-    topic_id: u16,
-    msg_id: u16,
-    body: &Octets,
-    qos: Qos,
+    publication: &Publication<'_>,
     meant: Meant,
 ) -> Result<Draft, NoMemory>
-    ensures { IfOk result (λ draft. draft ≡ spec.publish_meant (seen_of (R.kept replica.now)) asked
-        to session.now topic_id msg_id body.now qos (spec.within_limit body.now meant)) }
+    ensures { IfOk result (λ draft. draft ≡ spec.publish_meant (seen_in R.kept scene.now)
+        (is_retain_asked publication.now.flags.bits) scene.now.from session.now
+        publication.now.topic publication.now.msg_id publication.now.body.now
+        (qos_of publication.now.flags.bits) (spec.within_limit publication.now.body.now meant)) }
 {
     match meant {
-        Meant::Refused(code) => puback(alloc, to, topic_id, msg_id, code),
+        Meant::Refused(code) => puback(
+            alloc,
+            scene.from,
+            publication.topic,
+            publication.msg_id,
+            code,
+        ),
         Meant::Topic(name) => {
-            let draft = publish_on(
-                alloc, replica, asked, to, session, topic_id, msg_id, body, &name, qos,
-            );
+            let draft = publish_on(alloc, scene, session, publication, &name);
             drop(name);
             draft
         }
@@ -257,31 +266,18 @@ fn publish_meant<R: Replica>(
 /// by PUBACK.
 pub fn publish<R: Replica>(
     alloc: Global,
-    predefined: &Predefined,
-    replica: &R,
-    to: Addr,
+    scene: &Scene<'_, R>,
     session: &Session,
-    flags: Flags,
-    topic: u16,
-    msg_id: u16,
-    body: &Octets,
+    publication: &Publication<'_>,
 ) -> Result<Draft, NoMemory>
-    ensures { IfOk result (λ draft. draft ≡ spec.publish predefined.now
-        (seen_of (R.kept replica.now)) to session.now flags.bits topic msg_id body.now) }
+    ensures { IfOk result (λ draft. draft ≡ spec.publish scene.now.config.now.predefined
+        (seen_in R.kept scene.now) scene.now.from session.now publication.now.flags.bits
+        publication.now.topic publication.now.msg_id publication.now.body.now) }
 {
-    let meant = topic_meant(alloc, predefined, session, flags.kind(), topic)?;
-    publish_meant(
-        alloc,
-        replica,
-        retain_asked(flags),
-        to,
-        session,
-        topic,
-        msg_id,
-        body,
-        flags.qos(),
-        meant,
-    )
+    let predefined = &scene.config.predefined;
+    let kind = publication.flags.kind();
+    let meant = topic_meant(alloc, predefined, session, kind, publication.topic)?;
+    publish_meant(alloc, scene, session, publication, meant)
 }
 
 /// A publication without a connection, on this topic. A message of more than 4,096 octets is for
@@ -299,7 +295,7 @@ fn spread_on<R: Replica>(
     match Message::new(body.copied(alloc)?) {
         None => Ok(Draft::new(alloc)),
         Some(body) => {
-            let draft = spread(alloc, replica, asked, name, &body);
+            let draft = publish_at_0(alloc, replica, asked, name, &body);
             drop(body);
             draft
         }
@@ -332,19 +328,25 @@ fn spread_meant<R: Replica>(
 /// once, and nothing is answered.
 pub fn publish_unconnected<R: Replica>(
     alloc: Global,
-    predefined: &Predefined,
-    replica: &R,
-    flags: Flags,
-    topic: u16,
-    body: &Octets,
+    scene: &Scene<'_, R>,
+    publication: &Publication<'_>,
 ) -> Result<Draft, NoMemory>
-    ensures { IfOk result (λ draft. draft ≡ spec.publish_unconnected predefined.now
-        (seen_of (R.kept replica.now)) flags.bits topic body.now) }
+    ensures { IfOk result (λ draft. draft ≡ spec.publish_unconnected
+        scene.now.config.now.predefined (seen_in R.kept scene.now) publication.now.flags.bits
+        publication.now.topic publication.now.body.now) }
 {
+    let predefined = &scene.config.predefined;
+    let flags = publication.flags;
     let session = Session::empty(alloc);
-    let meant = topic_meant(alloc, predefined, &session, flags.kind(), topic);
+    let meant = topic_meant(alloc, predefined, &session, flags.kind(), publication.topic);
     drop(session);
-    spread_meant(alloc, replica, retain_asked(flags), body, meant?)
+    spread_meant(
+        alloc,
+        scene.replica,
+        retain_asked(flags),
+        publication.body,
+        meant?,
+    )
 }
 
 /// The change of the session, where the message id was received.

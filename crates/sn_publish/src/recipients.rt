@@ -31,8 +31,13 @@ fn admitted(pending: &[Put], presence: Presence, qos: QosLevel) -> Option<QosLev
 }
 
 /// At the smaller of the two qualities of service.
-fn qos_at(pending: &[Put], qos: QosLevel, session: &Session, asked: QosLevel) -> Option<QosLevel>
-    ensures { result ≡ spec.qos_at pending.now qos session.now asked }
+fn effective_qos(
+    pending: &[Put],
+    qos: QosLevel,
+    session: &Session,
+    asked: QosLevel,
+) -> Option<QosLevel>
+    ensures { result ≡ spec.effective_qos pending.now qos session.now asked }
 {
     admitted(pending, session.presence, qos.min(asked))
 }
@@ -43,7 +48,7 @@ fn qos_in(pending: &[Put], topic: &TopicName, qos: QosLevel, session: &Session) 
 {
     match session.subscribed_qos(topic) {
         None => None,
-        Some(asked) => qos_at(pending, qos, session, asked),
+        Some(asked) => effective_qos(pending, qos, session, asked),
     }
 }
 

@@ -27,67 +27,53 @@ empty_session =
 
 -- whether the operation finds the table full that it would make grow
 abbrev pub is_full : Session → SessionOp → Bool
-is_full session (Take taken) = false
-is_full session (SetPresence presence duration) = false
 is_full session (Register id name known) = topic_has_no_room id session.topics
 is_full session (Subscribe filter qos) = filter_has_no_room filter session.subscriptions
-is_full session (Unsubscribe filter) = false
-is_full session (WillTopic asked) = false
-is_full session (WillMsg message) = false
 is_full session (Received id) = id_has_no_room id session.received
-is_full session (Released id) = false
-is_full session (Outbound exchange next_id) = false
+is_full session change = false
 
 -- the session after one more operation that finds room
-abbrev pub changed : Session → SessionOp → Session
-changed session (Take taken) = taken
-changed session (SetPresence presence duration) =
+abbrev pub session_changed : Session → SessionOp → Session
+session_changed session (Take taken) = taken
+session_changed session (SetPresence presence duration) =
     record session { presence = presence; duration = duration }
-changed session (Register id name known) =
+session_changed session (Register id name known) =
     record session {
       topics = with_topic
           (record { id = id; name = name; known = known }) session.topics;
     }
-changed session (Subscribe filter qos) =
+session_changed session (Subscribe filter qos) =
     record session {
       subscriptions = with_subscription
           (record { filter = filter; qos = qos }) session.subscriptions;
     }
-changed session (Unsubscribe filter) =
+session_changed session (Unsubscribe filter) =
     record session { subscriptions = without_filter filter session.subscriptions }
-changed session (WillTopic asked) = record session { will = with_will_topic asked session.will }
-changed session (WillMsg message) = record session { will = with_will_message message session.will }
-changed session (Received id) = record session { received = with_received id session.received }
-changed session (Released id) = record session { received = without_received id session.received }
-changed session (Outbound exchange next_id) =
+session_changed session (WillTopic asked) =
+    record session { will = with_will_topic asked session.will }
+session_changed session (WillMsg message) =
+    record session { will = with_will_message message session.will }
+session_changed session (Received id) =
+    record session { received = with_received id session.received }
+session_changed session (Released id) =
+    record session { received = without_received id session.received }
+session_changed session (Outbound exchange next_id) =
     record session { outbound = exchange; next_id = next_id }
 
 -- the session after one more operation: one that finds its table full leaves the session as it was
 abbrev pub applied : Session → SessionOp → Session
-applied session change = if is_full session change then session else changed session change
+applied session change = if is_full session change then session else session_changed session change
 
 -- whether the operation holds a whole session
 abbrev pub is_take : SessionOp → Bool
 is_take (Take taken) = true
-is_take (SetPresence presence duration) = false
-is_take (Register id name known) = false
-is_take (Subscribe filter qos) = false
-is_take (Unsubscribe filter) = false
-is_take (WillTopic asked) = false
-is_take (WillMsg message) = false
-is_take (Received id) = false
-is_take (Released id) = false
-is_take (Outbound exchange next_id) = false
+is_take change = false
 
 -- whether the operation puts nothing into a session that takes memory: no octets, and no entry
-abbrev pub is_light : SessionOp → Bool
-is_light (Take taken) = false
-is_light (SetPresence presence duration) = true
-is_light (Register id name known) = false
-is_light (Subscribe filter qos) = false
-is_light (Unsubscribe filter) = true
-is_light (WillTopic asked) = is_none asked
-is_light (WillMsg message) = false
-is_light (Received id) = false
-is_light (Released id) = true
-is_light (Outbound exchange next_id) = true
+abbrev pub is_light_op : SessionOp → Bool
+is_light_op (SetPresence presence duration) = true
+is_light_op (Unsubscribe filter) = true
+is_light_op (WillTopic asked) = is_none asked
+is_light_op (Released id) = true
+is_light_op (Outbound exchange next_id) = true
+is_light_op change = false

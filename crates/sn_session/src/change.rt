@@ -143,7 +143,7 @@ impl Session {
         ensures err { OnErr result (self.new ≡ self.old) }
         ensures full { IsErrOf result SessionFault.Full ↔ IsTrue
             (spec.is_full self.old change.now) }
-        ensures light { OnErr result (spec.is_light change.now ≡ false) }
+        ensures light { OnErr result (spec.is_light_op change.now ≡ false) }
     {
         match change {
             SessionOp::Take(taken) => self.take(alloc, taken),
@@ -171,7 +171,7 @@ impl Session {
 
     /// Changes the session by one operation that puts no octets and no entry into it.
     fn apply_light(&mut self, change: &SessionOp)
-        requires { IsTrue (spec.is_light change.now) }
+        requires { IsTrue (spec.is_light_op change.now) }
         ensures { self.new ≡ applied self.old change.now }
     {
         match change {

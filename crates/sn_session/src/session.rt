@@ -91,7 +91,7 @@ impl Session {
 
     /// The quality of service of a filter that the client subscribed to.
     pub fn subscription(&self, filter: &Filter) -> Option<QosLevel>
-        ensures { result ≡ subscription_list.qos_of filter.now self.now.subscriptions }
+        ensures { result ≡ subscription_list.filter_qos filter.now self.now.subscriptions }
     {
         self.subscriptions.qos_of(filter)
     }

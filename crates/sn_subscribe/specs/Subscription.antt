@@ -5,7 +5,7 @@ use Rattle.sn_topic.specs.Topics.{name_asked}
 use Rattle.sn_session.specs.declared.session.Session.{Session}
 use Rattle.sn_session.specs.declared.change.SessionOp.{SessionOp}
 use Rattle.sn_session.specs.declared.change.SessionOp.TheVariants.{Subscribe, Unsubscribe}
-use Rattle.sn_tables.specs.Subscriptions.{qos_of as subscribed_at, filter_has_no_room}
+use Rattle.sn_tables.specs.Subscriptions.{filter_qos, filter_has_no_room}
 use Rattle.sn_frame.specs.declared.flags.TopicIdType.{TopicIdType}
 use Rattle.sn_frame.specs.declared.flags.TopicIdType.TheVariants as kinds
 use Rattle.sn_frame.specs.declared.frame.Frame.{Frame}
@@ -57,7 +57,7 @@ subscribe_change filter qos (Some before) =
 abbrev pub granted : Addr → Session → ℕ → ℕ → List ℕ → ℕ → NamedId → Drafted
 granted a s bits msg_id filter qos named =
     sent a (suback bits named.id msg_id 0)
-    (changed_if (subscribe_change filter qos (subscribed_at filter s.subscriptions))
+    (changed_if (subscribe_change filter qos (filter_qos filter s.subscriptions))
     (changed_if named.change nothing))
 
 -- SUBSCRIBE by its topic id, of a client for which so many messages wait: it is handed what is
@@ -95,7 +95,7 @@ subscribe predefined seen waiting a s bits msg_id field =
 -- the change of the session, if it has the filter
 abbrev pub unsubscribe_change : Session → List ℕ → Option SessionOp
 unsubscribe_change s filter =
-    if is_some (subscribed_at filter s.subscriptions) then Some (Unsubscribe filter) else None
+    if is_some (filter_qos filter s.subscriptions) then Some (Unsubscribe filter) else None
 
 -- the change of UNSUBSCRIBE, if its topic field asks for a filter that the session has
 abbrev pub unsubscribe_asked : Session → Asked → Option SessionOp

@@ -9,7 +9,7 @@ use Rattle.sn_local.specs.Seen.{Seen}
 use Rattle.sn_local.specs.Bindings.{client_at}
 use Rattle.sn_local.specs.Locals.{Local}
 use Rattle.sn_plan.specs.Bound.{session_of}
-use Rattle.sn_plan.specs.Rows.{row_of, heard_row, turned_away}
+use Rattle.sn_plan.specs.Rows.{row_of, row_with_timer, turned_away}
 use Rattle.sn_subscribe.specs.Handing.{waiting_for}
 use Rattle.sn_subscribe.specs.Registration.{register as register_draft}
 use Rattle.sn_subscribe.specs.Subscription.{subscribe as subscribe_draft, unsubscribe as unsubscribe_draft}
@@ -18,7 +18,8 @@ use Rattle.sn_subscribe.specs.Subscription.{subscribe as subscribe_draft, unsubs
 abbrev pub register_of : Seen → Addr → Option (List ℕ) → ℕ → List ℕ → ℕ → Row
 register_of seen a None msg_id name now = turned_away a
 register_of seen a (Some c) msg_id name now =
-    heard_row (Some c) now (row_of Delivery c (register_draft a (session_of seen c) msg_id name))
+    row_with_timer (Some c) now
+    (row_of Delivery c (register_draft a (session_of seen c) msg_id name))
 
 -- the row of REGISTER (6.5)
 abbrev pub register : Seen → Local → Addr → ℕ → List ℕ → ℕ → Row
@@ -29,7 +30,7 @@ register seen local a msg_id name now =
 abbrev pub subscribe_of : Entries → Seen → Addr → Option (List ℕ) → ℕ → ℕ → List ℕ → ℕ → Row
 subscribe_of predefined seen a None bits msg_id field now = turned_away a
 subscribe_of predefined seen a (Some c) bits msg_id field now =
-    heard_row (Some c) now
+    row_with_timer (Some c) now
     (row_of Delivery c
     (subscribe_draft predefined seen (waiting_for seen c) a (session_of seen c) bits msg_id field))
 
@@ -42,7 +43,7 @@ subscribe predefined seen local a bits msg_id field now =
 abbrev pub unsubscribe_of : Entries → Seen → Addr → Option (List ℕ) → ℕ → ℕ → List ℕ → ℕ → Row
 unsubscribe_of predefined seen a None bits msg_id field now = turned_away a
 unsubscribe_of predefined seen a (Some c) bits msg_id field now =
-    heard_row (Some c) now
+    row_with_timer (Some c) now
     (row_of Delivery c (unsubscribe_draft predefined a (session_of seen c) bits msg_id field))
 
 -- the row of UNSUBSCRIBE (6.9)

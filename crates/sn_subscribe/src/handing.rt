@@ -6,21 +6,11 @@ ghost use Rattle.sn_subscribe.specs.Handing as spec;
 
 use octets::NoMemory;
 use rep_model::Replica;
-use rep_ops::{ClientId, Retained};
+use rep_ops::Retained;
 use sn_plan::{MAX_PENDING, Posted};
 use sn_tables::QosLevel;
 use sn_topic::{Filter, TopicName};
 use std::alloc::Global;
-
-/// How many messages wait for a client.
-pub fn waiting_for<R: Replica>(replica: &R, client: &ClientId) -> usize
-    ensures { result ≡ spec.waiting_for (seen_of (R.kept replica.now)) client.now }
-{
-    match replica.view_of(client) {
-        Some(view) => view.pending.len(),
-        None => 0,
-    }
-}
 
 /// What is retained of a topic, at this quality of service at most.
 fn at_most(qos: QosLevel, topic: TopicName, retained: Retained) -> Posted

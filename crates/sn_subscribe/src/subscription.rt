@@ -26,6 +26,37 @@ use std::alloc::Global;
 /// The two bits of the quality of service.
 const QOS_BITS: u8 = 0x60;
 
+/// A SUBSCRIBE or UNSUBSCRIBE, as its frame says it.
+#[derive(Clone, Copy)]
+pub struct Asking<'a> {
+    /// Its flags.
+    pub flags: Flags,
+    /// Its message id.
+    pub msg_id: u16,
+    /// Its topic field.
+    pub field: &'a [u8],
+}
+
+/// The client that subscribes.
+#[derive(Clone, Copy)]
+pub struct Subscriber<'a> {
+    /// Where its answer goes to.
+    pub to: Addr,
+    /// Its session.
+    pub session: &'a Session,
+    /// How many messages wait for it.
+    pub waiting: usize,
+}
+
+/// What it subscribes to.
+#[derive(Drop)]
+struct Wanted {
+    /// The topics.
+    filter: Filter,
+    /// The quality of service.
+    qos: QosLevel,
+}
+
 /// SUBACK with the quality of service that was asked for.
 fn suback(flags: Flags, topic_id: u16, msg_id: u16, code: u8) -> Frame
     ensures { result ≡ spec.suback flags.bits topic_id msg_id code }
@@ -101,21 +132,17 @@ fn subscribe_change(filter: Filter, qos: QosLevel, before: Option<QosLevel>) -> 
 /// Answers with that id, and changes the session where it needs a change.
 fn granted(
     alloc: Global,
-    to: Addr,
-    session: &Session,
-    flags: Flags,
-    msg_id: u16,
-    filter: Filter,
-    qos: QosLevel,
+    subscriber: &Subscriber<'_>,
+    asking: &Asking<'_>,
+    wanted: Wanted,
     named: NamedId,
 ) -> Result<Draft, NoMemory>
-    ensures { IfOk result (λ draft. draft ≡ spec.granted to session.now flags.bits msg_id filter
-        qos named) }
+    ensures { IfOk result (λ draft. draft ≡ spec.granted subscriber.now.to
+        subscriber.now.session.now asking.now.flags.bits asking.now.msg_id wanted.filter wanted.qos
+        named) }
 {
     let mut draft = Draft::new(alloc);
-    let done = write_granted(
-        alloc, &mut draft, to, session, flags, msg_id, filter, qos, named,
-    );
+    let done = write_granted(alloc, &mut draft, subscriber, asking, wanted, named);
     finished(draft, done)
 }
 
@@ -123,50 +150,47 @@ fn granted(
 fn write_granted(
     alloc: Global,
     draft: &mut Draft,
-    to: Addr,
-    session: &Session,
-    flags: Flags,
-    msg_id: u16,
-    filter: Filter,
-    qos: QosLevel,
+    subscriber: &Subscriber<'_>,
+    asking: &Asking<'_>,
+    wanted: Wanted,
     named: NamedId,
 ) -> Result<(), NoMemory>
     requires { draft.old ≡ nothing }
-    ensures { OnOk result (draft.new ≡ spec.granted to session.now flags.bits msg_id filter
-        qos named) }
+    ensures { OnOk result (draft.new ≡ spec.granted subscriber.now.to subscriber.now.session.now
+        asking.now.flags.bits asking.now.msg_id wanted.filter wanted.qos named) }
 {
     let NamedId { id, change } = named;
-    let before = session.subscription(&filter);
+    let Wanted { filter, qos } = wanted;
+    let before = subscriber.session.subscription(&filter);
     draft.change_if(change)?;
     draft.change_if(subscribe_change(filter, qos, before))?;
-    draft.send(alloc, to, suback(flags, id, msg_id, ACCEPTED))
+    let answer = suback(asking.flags, id, asking.msg_id, ACCEPTED);
+    draft.send(alloc, subscriber.to, answer)
 }
 
 /// Answers with that id, and hands the client what is retained.
 fn granted_and_handed<R: Replica>(
     alloc: Global,
     replica: &R,
-    waiting: usize,
-    to: Addr,
-    session: &Session,
-    flags: Flags,
-    msg_id: u16,
-    filter: Filter,
-    qos: QosLevel,
+    subscriber: &Subscriber<'_>,
+    asking: &Asking<'_>,
+    wanted: Wanted,
     named: NamedId,
 ) -> Result<Draft, NoMemory>
-    ensures { IfOk result (λ draft. draft ≡ spec.subscribed (seen_of (R.kept replica.now)) waiting
-        to session.now flags.bits msg_id filter qos (Some named)) }
+    ensures { IfOk result (λ draft. draft ≡ spec.subscribed (seen_of (R.kept replica.now))
+        subscriber.now.waiting subscriber.now.to subscriber.now.session.now asking.now.flags.bits
+        asking.now.msg_id wanted.filter wanted.qos (Some named)) }
 {
-    let handed = match handed_for(alloc, replica, &filter, qos, waiting) {
+    let waiting = subscriber.waiting;
+    let handed = match handed_for(alloc, replica, &wanted.filter, wanted.qos, waiting) {
         Ok(handed) => handed,
         Err(_) => {
             drop(named);
-            drop(filter);
+            drop(wanted);
             return Err(NoMemory);
         }
     };
-    match granted(alloc, to, session, flags, msg_id, filter, qos, named) {
+    match granted(alloc, subscriber, asking, wanted, named) {
         Ok(draft) => hand(draft, handed),
         Err(_) => {
             drop(handed);
@@ -193,23 +217,19 @@ fn hand(draft: Draft, handed: Vec<Posted>) -> Result<Draft, NoMemory>
 fn subscribed<R: Replica>(
     alloc: Global,
     replica: &R,
-    waiting: usize,
-    to: Addr,
-    session: &Session,
-    flags: Flags,
-    msg_id: u16,
-    filter: Filter,
-    qos: QosLevel,
+    subscriber: &Subscriber<'_>,
+    asking: &Asking<'_>,
+    wanted: Wanted,
     named: Option<NamedId>,
 ) -> Result<Draft, NoMemory>
-    ensures { IfOk result (λ draft. draft ≡ spec.subscribed (seen_of (R.kept replica.now)) waiting
-        to session.now flags.bits msg_id filter qos named) }
+    ensures { IfOk result (λ draft. draft ≡ spec.subscribed (seen_of (R.kept replica.now))
+        subscriber.now.waiting subscriber.now.to subscriber.now.session.now asking.now.flags.bits
+        asking.now.msg_id wanted.filter wanted.qos named) }
 {
+    let to = subscriber.to;
     match named {
-        None => refuse(alloc, to, flags, msg_id, CONGESTION),
-        Some(named) => granted_and_handed(
-            alloc, replica, waiting, to, session, flags, msg_id, filter, qos, named,
-        ),
+        None => refuse(alloc, to, asking.flags, asking.msg_id, CONGESTION),
+        Some(named) => granted_and_handed(alloc, replica, subscriber, asking, wanted, named),
     }
 }
 
@@ -217,76 +237,67 @@ fn subscribed<R: Replica>(
 fn subscribe_to<R: Replica>(
     alloc: Global,
     replica: &R,
-    waiting: usize,
-    to: Addr,
-    session: &Session,
-    flags: Flags,
-    msg_id: u16,
-    field: &[u8],
-    filter: Filter,
-    qos: QosLevel,
+    subscriber: &Subscriber<'_>,
+    asking: &Asking<'_>,
+    wanted: Wanted,
 ) -> Result<Draft, NoMemory>
-    ensures { IfOk result (λ draft. draft ≡ spec.subscribe_to (seen_of (R.kept replica.now)) waiting
-        to session.now flags.bits msg_id field.now filter qos) }
+    ensures { IfOk result (λ draft. draft ≡ spec.subscribe_to (seen_of (R.kept replica.now))
+        subscriber.now.waiting subscriber.now.to subscriber.now.session.now asking.now.flags.bits
+        asking.now.msg_id asking.now.field.now wanted.filter wanted.qos) }
 {
-    if session.subscriptions.has_no_room(&filter) {
-        return refuse(alloc, to, flags, msg_id, CONGESTION);
+    let to = subscriber.to;
+    let session = subscriber.session;
+    if session.subscriptions.has_no_room(&wanted.filter) {
+        return refuse(alloc, to, asking.flags, asking.msg_id, CONGESTION);
     }
-    let named = id_asked(alloc, session, flags.kind(), field, &filter)?;
-    subscribed(
-        alloc, replica, waiting, to, session, flags, msg_id, filter, qos, named,
-    )
+    let kind = asking.flags.kind();
+    let named = id_asked(alloc, session, kind, asking.field, &wanted.filter)?;
+    subscribed(alloc, replica, subscriber, asking, wanted, named)
 }
 
 /// Subscribes to what is asked for, at this quality of service.
 fn subscribe_asked<R: Replica>(
     alloc: Global,
     replica: &R,
-    waiting: usize,
-    to: Addr,
-    session: &Session,
-    flags: Flags,
-    msg_id: u16,
-    field: &[u8],
+    subscriber: &Subscriber<'_>,
+    asking: &Asking<'_>,
     asked: Asked,
     qos: QosLevel,
 ) -> Result<Draft, NoMemory>
     ensures { IfOk result (λ draft. draft ≡ spec.subscribe_asked (seen_of (R.kept replica.now))
-        waiting to session.now flags.bits msg_id field.now asked qos) }
+        subscriber.now.waiting subscriber.now.to subscriber.now.session.now asking.now.flags.bits
+        asking.now.msg_id asking.now.field.now asked qos) }
 {
     match asked {
-        Asked::Refused(code) => refuse(alloc, to, flags, msg_id, code),
-        Asked::Topics(filter) => subscribe_to(
-            alloc, replica, waiting, to, session, flags, msg_id, field, filter, qos,
-        ),
+        Asked::Refused(code) => refuse(alloc, subscriber.to, asking.flags, asking.msg_id, code),
+        Asked::Topics(filter) => {
+            let wanted = Wanted { filter, qos };
+            subscribe_to(alloc, replica, subscriber, asking, wanted)
+        }
     }
 }
 
 /// SUBSCRIBE: the client asks for topics, by a filter, a predefined id or a short name. SUBACK has
 /// the quality of service that was asked for and the topic id, if there is one, or says why it is
-/// refused; then nothing changes. A client for which so many messages wait is handed what is
-/// retained of these topics, as long as fewer than 1,024 wait.
+/// refused; then nothing changes. The client is handed what is retained of these topics, as long as
+/// fewer than 1,024 messages wait for it.
 pub fn subscribe<R: Replica>(
     alloc: Global,
     predefined: &Predefined,
     replica: &R,
-    waiting: usize,
-    to: Addr,
-    session: &Session,
-    flags: Flags,
-    msg_id: u16,
-    field: &[u8],
+    subscriber: &Subscriber<'_>,
+    asking: &Asking<'_>,
 ) -> Result<Draft, NoMemory>
     ensures { IfOk result (λ draft. draft ≡ spec.subscribe predefined.now
-        (seen_of (R.kept replica.now)) waiting to session.now flags.bits msg_id field.now) }
+        (seen_of (R.kept replica.now)) subscriber.now.waiting subscriber.now.to
+        subscriber.now.session.now asking.now.flags.bits asking.now.msg_id asking.now.field.now) }
 {
+    let flags = asking.flags;
     let Some(qos) = qos_asked(flags.qos()) else {
-        return refuse(alloc, to, flags, msg_id, NOT_SUPPORTED);
+        return refuse(alloc, subscriber.to, flags, asking.msg_id, NOT_SUPPORTED);
     };
-    let asked = topics_asked(alloc, predefined, flags.kind(), field)?;
-    subscribe_asked(
-        alloc, replica, waiting, to, session, flags, msg_id, field, asked, qos,
-    )
+    let asked = topics_asked(alloc, predefined, flags.kind(), asking.field)?;
+    subscribe_asked(alloc, replica, subscriber, asking, asked, qos)
 }
 
 /// The change of the session, where it has the filter.
@@ -316,14 +327,13 @@ pub fn unsubscribe(
     predefined: &Predefined,
     to: Addr,
     session: &Session,
-    flags: Flags,
-    msg_id: u16,
-    field: &[u8],
+    asking: &Asking<'_>,
 ) -> Result<Draft, NoMemory>
     ensures { IfOk result (λ draft. draft ≡ spec.unsubscribe predefined.now to session.now
-        flags.bits msg_id field.now) }
+        asking.now.flags.bits asking.now.msg_id asking.now.field.now) }
 {
-    let asked = topics_asked(alloc, predefined, flags.kind(), field)?;
+    let asked = topics_asked(alloc, predefined, asking.flags.kind(), asking.field)?;
     let change = unsubscribe_asked(session, asked);
+    let msg_id = asking.msg_id;
     answered(alloc, to, change, Frame::UnsubAck { msg_id })
 }

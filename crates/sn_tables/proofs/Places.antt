@@ -9,7 +9,7 @@ use Rattle.std.specs.List.Sorted.{IsSearchInRange, IsBinarySearchResult, IsNonDe
 use Rattle.std.proofs.lemmas.List.Sorted.{searchable_from_sorted}
 use Rattle.std.proofs.lemmas.List.Edits.{length-insert}
 use Rattle.sn_tables.specs.Tables.{is_ascending, with_entry, IsTable}
-use Rattle.sn_tables.specs.inner.Tables.{AllAbove, IsAt, IsGap, IsPlace}
+use Rattle.sn_tables.specs.inner.Tables.{AllAbove, IsFoundAt, IsGap, IsPlace}
 use Rattle.sn_tables.proofs.Ascending.{Ascends, all_weaker, from_test, to_test, ascends_with, ascends_filter}
 
 -- neighbours of a list that ascends do not go down
@@ -36,13 +36,13 @@ module _ {E : Type 0} (sought : E → Ordering) where
       (below zero x (omega arith), gap_from xs i (omega arith) (λ j d lt. below (suc j) d (omega arith)) (λ j d le lt. above (suc j) d (omega arith) (omega arith)))
 
   -- the place is one of the list
-  pub at_within : (xs : List E) (i : ℕ) → IsAt sought xs i → i < length xs
+  pub at_within : (xs : List E) (i : ℕ) → IsFoundAt sought xs i → i < length xs
   at_within [] i h = absurd h
   at_within (x ∷ xs) zero h = omega arith
   at_within (x ∷ xs) (suc i) h = let lt = at_within xs i h.1 in omega arith
 
   -- what stands there is what is sought
-  pub at_equal : (xs : List E) (i : ℕ) (d : E) → IsAt sought xs i → sought (get_or xs i d) ≡ Equal
+  pub at_equal : (xs : List E) (i : ℕ) (d : E) → IsFoundAt sought xs i → sought (get_or xs i d) ≡ Equal
   at_equal [] i d h = absurd h
   at_equal (x ∷ xs) zero d h = h.0
   at_equal (x ∷ xs) (suc i) d h = at_equal xs i d h.1
@@ -60,7 +60,7 @@ module _ {E : Type 0} (sought : E → Ordering) where
     keep_above (x ∷ xs) h = rw (above x h.0) (ap (λ rest. x ∷ rest) (keep_above xs h.1))
 
     -- it is found at its place
-    pub find_at : (xs : List E) (i : ℕ) (d : E) → IsAt sought xs i → find test xs ≡ Some (get_or xs i d)
+    pub find_at : (xs : List E) (i : ℕ) (d : E) → IsFoundAt sought xs i → find test xs ≡ Some (get_or xs i d)
     find_at [] i d h = absurd h
     find_at (x ∷ xs) zero d h = rw (passes x h.0) refl
     find_at (x ∷ xs) (suc i) d h = rw (below x h.0) (find_at xs i d h.1)
@@ -72,7 +72,7 @@ module _ {E : Type 0} (sought : E → Ordering) where
     find_gap (x ∷ xs) (suc i) h = rw (below x h.0) (find_gap xs i h.1)
 
     -- taking it away
-    pub without_at : (xs : List E) (i : ℕ) → IsAt sought xs i → filter (λ x. not (test x)) xs ≡ remove xs i
+    pub without_at : (xs : List E) (i : ℕ) → IsFoundAt sought xs i → filter (λ x. not (test x)) xs ≡ remove xs i
     without_at [] i h = absurd h
     without_at (x ∷ xs) zero h = rw (passes x h.0) (keep_above xs h.1)
     without_at (x ∷ xs) (suc i) h = rw (below x h.0) (ap (λ rest. x ∷ rest) (without_at xs i h.1))
@@ -86,7 +86,7 @@ module _ {E : Type 0} (sought : E → Ordering) where
   -- setting an entry e, when each entry is compared with it
   module _ (cmp : E → E → Ordering) (e : E) (turns : (x : E) → cmp e x ≡ ordering_reverse (sought x)) where
     -- in its place
-    pub with_at : (xs : List E) (i : ℕ) → IsAt sought xs i → with_entry cmp e xs ≡ set xs i e
+    pub with_at : (xs : List E) (i : ℕ) → IsFoundAt sought xs i → with_entry cmp e xs ≡ set xs i e
     with_at [] i h = absurd h
     with_at (x ∷ xs) zero h = rw (turns x ∙ ap ordering_reverse h.0) refl
     with_at (x ∷ xs) (suc i) h = rw (turns x ∙ ap ordering_reverse h.0) (ap (λ rest. x ∷ rest) (with_at xs i h.1))
@@ -114,7 +114,7 @@ module _ {E K : Type 0} (key : E → K) (R : K → K → Ordering) (total : IsTo
   later P (x ∷ xs) (suc i) d lt h = later P xs i d (omega arith) h.1
 
   -- an entry with the key in a list that ascends
-  pub at_from : (xs : List E) (i : ℕ) → Ascends (λ x y. R (key x) (key y)) xs → i < length xs → ((d : E) → R (key (get_or xs i d)) k ≡ Equal) → IsAt (λ x. R (key x) k) xs i
+  pub at_from : (xs : List E) (i : ℕ) → Ascends (λ x y. R (key x) (key y)) xs → i < length xs → ((d : E) → R (key (get_or xs i d)) k ≡ Equal) → IsFoundAt (λ x. R (key x) k) xs i
   at_from [] i up lt here = absurd (omega arith)
   at_from (x ∷ xs) zero up lt here = (here x, all_weaker (λ y. R (key x) (key y) ≡ Less) (λ y. R (key y) k ≡ Greater) (λ y below. after x (here x) y below) xs up.0)
   at_from (x ∷ xs) (suc i) up lt here =
@@ -138,7 +138,7 @@ module _ {E : Type 0} (cmp : E → E → Ordering) (total : IsTotalOrder cmp) wh
       (subst (λ l. is_ascending cmp l ≡ true) (sym is) (to_test cmp (with_entry cmp e xs) (ascends_with cmp total e xs (from_test cmp total xs up))), le)
 
   -- a write over the entry of the same place
-  pub table_set : (sought : E → Ordering) (e : E) → ((x : E) → cmp e x ≡ ordering_reverse (sought x)) → (xs : List E) (i : ℕ) → IsTable cmp xs → IsAt sought xs i → IsTable cmp (set xs i e)
+  pub table_set : (sought : E → Ordering) (e : E) → ((x : E) → cmp e x ≡ ordering_reverse (sought x)) → (xs : List E) (i : ℕ) → IsTable cmp xs → IsFoundAt sought xs i → IsTable cmp (set xs i e)
   table_set sought e turns xs i table at = table_with e xs (set xs i e) table.0 (sym (with_at sought cmp e turns xs i at)) (let same = length-set xs i e in omega (arith, table.1))
 
   -- an entry put into the gap for it

@@ -7,7 +7,7 @@ use Rattle.std.specs.Cmp.{nat_cmp_total}
 use Rattle.std.specs.List.{insert, remove}
 use Rattle.std.proofs.lemmas.Cmp.{ranked}
 use Rattle.sn_tables.specs.Tables.{IsTable}
-use Rattle.sn_tables.specs.inner.Tables.{IsAt, IsGap, IsPlace, AllAbove}
+use Rattle.sn_tables.specs.inner.Tables.{IsFoundAt, IsGap, IsPlace, AllAbove}
 use Rattle.sn_tables.specs.Received.{with_received, without_received, is_received, id_has_no_room}
 use Rattle.sn_tables.proofs.Numbers.{tied, lower, higher, room_left}
 use Rattle.sn_tables.proofs.Places.{with_gap, table_insert, table_filter, without_at, without_gap}
@@ -20,7 +20,7 @@ turns : (e x : ℕ) → nat_cmp e x ≡ ordering_reverse (by_number e x)
 turns e x = nat_cmp_total.antisymm e x
 
 module _ (id : ℕ) where
-  pub there : (xs : List ℕ) (i : ℕ) → IsAt (by_number id) xs i → is_received id xs ≡ true
+  pub there : (xs : List ℕ) (i : ℕ) → IsFoundAt (by_number id) xs i → is_received id xs ≡ true
   there [] i h = absurd h
   there (x ∷ xs) zero h = rw (tied x id h.0) refl
   there (x ∷ xs) (suc i) h = rw (lower x id h.0) (there xs i h.1)
@@ -40,7 +40,7 @@ module _ (id : ℕ) where
   answers xs (Err i) h = sym (not_there xs i h.1)
 
   -- adding one that is there
-  pub with_there : (xs : List ℕ) (i : ℕ) → IsAt (by_number id) xs i → with_received id xs ≡ xs
+  pub with_there : (xs : List ℕ) (i : ℕ) → IsFoundAt (by_number id) xs i → with_received id xs ≡ xs
   with_there [] i h = absurd h
   with_there (x ∷ xs) zero h = rw (turns id x ∙ ap ordering_reverse h.0) (ap (λ n. n ∷ xs) (sym (ranked x id Equal (sym h.0))))
   with_there (x ∷ xs) (suc i) h = rw (turns id x ∙ ap ordering_reverse h.0) (ap (λ rest. x ∷ rest) (with_there xs i h.1))
@@ -56,11 +56,11 @@ module _ (id : ℕ) where
     pub insert_table : IsTable nat_cmp xs → i ≤ length xs → length xs < 256 → IsGap (by_number id) xs i → IsTable nat_cmp (insert xs i id)
     insert_table table le room h = table_insert nat_cmp nat_cmp_total (by_number id) id (turns id) xs i table le room h
 
-    pub remove_is : IsAt (by_number id) xs i → remove xs i ≡ without_received id xs
+    pub remove_is : IsFoundAt (by_number id) xs i → remove xs i ≡ without_received id xs
     remove_is h = sym (without_at (by_number id) (λ n. n == id) (λ n. tied n id) (λ n. lower n id) (λ n. higher n id) xs i h)
 
     pub remove_none : IsGap (by_number id) xs i → xs ≡ without_received id xs
     remove_none h = sym (without_gap (by_number id) (λ n. n == id) (λ n. tied n id) (λ n. lower n id) (λ n. higher n id) xs i h)
 
-    pub remove_table : IsTable nat_cmp xs → IsAt (by_number id) xs i → IsTable nat_cmp (remove xs i)
+    pub remove_table : IsTable nat_cmp xs → IsFoundAt (by_number id) xs i → IsTable nat_cmp (remove xs i)
     remove_table table h = rw (remove_is h) (table_filter nat_cmp nat_cmp_total (λ n. not (n == id)) xs table)

@@ -9,7 +9,7 @@ use Rattle.std.specs.FinMap.{slice_cmp-IsAntisymmetric, nat_cmp-IsAntisymmetric}
 use Rattle.std.specs.List.{insert, remove}
 use Rattle.sn_tables.specs.declared.subscriptions.Subscription.{Subscription}
 use Rattle.sn_tables.specs.Tables.{IsTable}
-use Rattle.sn_tables.specs.inner.Tables.{IsAt, IsGap}
+use Rattle.sn_tables.specs.inner.Tables.{IsFoundAt, IsGap}
 use Rattle.sn_tables.specs.Subscriptions.{subscription_cmp, with_subscription, without_filter, subscription_of, filter_has_no_room}
 use Rattle.sn_tables.proofs.Numbers.{room_left}
 use Rattle.sn_tables.proofs.Places.{find_at, find_gap, at_equal, with_at, with_gap, table_set, table_insert, table_filter, without_at, without_gap}
@@ -35,37 +35,37 @@ higher a b h = texts_ties a b ∙ ap is_eq h
 
 module _ (xs : List Subscription) (i : ℕ) where
   module _ (asked : List ℕ) where
-    pub found : (d : Subscription) → IsAt (by_filter asked) xs i → subscription_of asked xs ≡ Some (get_or xs i d)
+    pub found : (d : Subscription) → IsFoundAt (by_filter asked) xs i → subscription_of asked xs ≡ Some (get_or xs i d)
     found d h = find_at (by_filter asked) (λ e. bytes_eq e.filter asked) (λ e. tied e.filter asked) (λ e. lower e.filter asked) (λ e. higher e.filter asked) xs i d h
 
     pub absent : IsGap (by_filter asked) xs i → subscription_of asked xs ≡ None
     absent h = find_gap (by_filter asked) (λ e. bytes_eq e.filter asked) (λ e. tied e.filter asked) (λ e. lower e.filter asked) (λ e. higher e.filter asked) xs i h
 
     -- the filter there is the one that was sought
-    pub same_filter : (d : Subscription) → IsAt (by_filter asked) xs i → (get_or xs i d).filter ≡ asked
+    pub same_filter : (d : Subscription) → IsFoundAt (by_filter asked) xs i → (get_or xs i d).filter ≡ asked
     same_filter d h = slice_cmp-IsAntisymmetric nat_cmp-IsAntisymmetric (get_or xs i d).filter asked (at_equal (by_filter asked) xs i d h)
 
     -- a gap in a table that has room for the filter
     pub room : IsGap (by_filter asked) xs i → filter_has_no_room asked xs ≡ false → length xs < 256
     room h free = room_left (length xs) (is_none (subscription_of asked xs)) free (ap is_none (absent h))
 
-    pub remove_is : IsAt (by_filter asked) xs i → remove xs i ≡ without_filter asked xs
+    pub remove_is : IsFoundAt (by_filter asked) xs i → remove xs i ≡ without_filter asked xs
     remove_is h = sym (without_at (by_filter asked) (λ e. bytes_eq e.filter asked) (λ e. tied e.filter asked) (λ e. lower e.filter asked) (λ e. higher e.filter asked) xs i h)
 
     pub remove_none : IsGap (by_filter asked) xs i → xs ≡ without_filter asked xs
     remove_none h = sym (without_gap (by_filter asked) (λ e. bytes_eq e.filter asked) (λ e. tied e.filter asked) (λ e. lower e.filter asked) (λ e. higher e.filter asked) xs i h)
 
-    pub remove_table : IsTable subscription_cmp xs → IsAt (by_filter asked) xs i → IsTable subscription_cmp (remove xs i)
+    pub remove_table : IsTable subscription_cmp xs → IsFoundAt (by_filter asked) xs i → IsTable subscription_cmp (remove xs i)
     remove_table table h = rw (remove_is h) (table_filter subscription_cmp subscription_total (λ e. not (bytes_eq e.filter asked)) xs table)
 
   module _ (e : Subscription) where
-    pub set_is : IsAt (by_filter e.filter) xs i → set xs i e ≡ with_subscription e xs
+    pub set_is : IsFoundAt (by_filter e.filter) xs i → set xs i e ≡ with_subscription e xs
     set_is h = sym (with_at (by_filter e.filter) subscription_cmp e (turns e) xs i h)
 
     pub insert_is : IsGap (by_filter e.filter) xs i → insert xs i e ≡ with_subscription e xs
     insert_is h = sym (with_gap (by_filter e.filter) subscription_cmp e (turns e) xs i h)
 
-    pub set_table : IsTable subscription_cmp xs → IsAt (by_filter e.filter) xs i → IsTable subscription_cmp (set xs i e)
+    pub set_table : IsTable subscription_cmp xs → IsFoundAt (by_filter e.filter) xs i → IsTable subscription_cmp (set xs i e)
     set_table table h = table_set subscription_cmp subscription_total (by_filter e.filter) e (turns e) xs i table h
 
     pub insert_table : IsTable subscription_cmp xs → i ≤ length xs → length xs < 256 → IsGap (by_filter e.filter) xs i → IsTable subscription_cmp (insert xs i e)

@@ -4,6 +4,6 @@ use Rattle.sn_tables.specs.declared.fault.SessionFault.{SessionFault}
 use Rattle.sn_tables.specs.declared.fault.SessionFault.TheVariants.{Full, Memory}
 
 -- the number by which reports name a fault
-abbrev pub number_of : SessionFault → ℕ
-number_of Full = 1
-number_of Memory = 2
+abbrev pub session_fault_number : SessionFault → ℕ
+session_fault_number Full = 1
+session_fault_number Memory = 2

@@ -28,8 +28,8 @@ abbrev pub subscription_of : List ℕ → List Subscription → Option Subscript
 subscription_of asked subscriptions = find (λ s. bytes_eq s.filter asked) subscriptions
 
 -- the quality of service of a filter
-abbrev pub qos_of : List ℕ → List Subscription → Option ℕ
-qos_of asked subscriptions = option_map (λ s. s.qos) (subscription_of asked subscriptions)
+abbrev pub filter_qos : List ℕ → List Subscription → Option ℕ
+filter_qos asked subscriptions = option_map (λ s. s.qos) (subscription_of asked subscriptions)
 
 -- this filter cannot be set: it would be one more than there is room for
 abbrev pub filter_has_no_room : List ℕ → List Subscription → Bool

@@ -1,7 +1,7 @@
 //! Why an operation was not applied.
 
 ghost use Rattle.std.specs.Prelude.{◌≡◌};
-ghost use Rattle.sn_tables.specs.Fault.{number_of};
+ghost use Rattle.sn_tables.specs.Fault.{session_fault_number};
 ghost use Rattle.sn_tables.specs.declared.fault.SessionFault.TheVariants as faults;
 
 use sn_topic::octets::NoMemory;
@@ -22,7 +22,7 @@ pub enum SessionFault {
 impl SessionFault {
     /// The number by which reports name the fault, 1 or 2.
     pub fn number(&self) -> u8
-        ensures { result ≡ number_of self.now }
+        ensures { result ≡ session_fault_number self.now }
     {
         match self {
             SessionFault::Full => 1,

@@ -107,7 +107,7 @@ impl Subscriptions {
 
     /// The quality of service of a filter. The time is logarithmic.
     pub fn qos_of(&self, filter: &Filter) -> Option<QosLevel>
-        ensures { result ≡ spec.qos_of filter.now self.now }
+        ensures { result ≡ spec.filter_qos filter.now self.now }
     {
         let entries = self.entries.as_slice();
         match place(entries, filter) {

@@ -27,7 +27,7 @@ use Rattle.sn_tick.specs.declared.due.Due.TheVariants.{Expiry, Loss, Retry}
 use Rattle.sn_exchange.specs.Exchanges.{open_exchange, is_served}
 use Rattle.sn_tick.specs.Expiry.{under_way, is_under_way, is_expired, is_far_after, is_left_behind, is_stretched, has_expired}
 use Rattle.sn_tick.specs.Due.{patience, is_overdue, due_exchange, due_by, due_at, due_session, expiry_or_due, due_view, due_with, or_later, first_due}
-use Rattle.sn_tick.specs.Ticking.{is_old, needs_timer, timer_begun, timers_begun, dialog_ended, dialogs_ended, cleaned, is_long_ago, may_advertise, advertised, plan_if_due, one_thing, tick}
+use Rattle.sn_tick.specs.Ticking.{is_old, needs_timer, timer_begun, timers_begun, dialog_ended, dialogs_ended, begin_tick, is_long_ago, may_advertise, advertised, plan_if_due, plan_one_thing, tick}
 use Rattle.sn_tick.specs.Rest.{asks, is_idle}
 use Rattle.sn_tick.proofs.Calm.{some_none}
 
@@ -91,9 +91,9 @@ module _ (g lifetime advertise : ℕ) (field : List Addr) (predefined : Entries)
       let timers : timers_begun g seen local.timers now seen.all nothing ≡ nothing =
       fold_same (timer_begun g seen local.timers now) (asks g seen local now) nothing seen.all
       (λ c quiet. ap (λ b. if b then moved (Heard c now) nothing else nothing) (or_false (needs_timer g local.timers c (seen.of c)) (is_some (due_with g seen local now c)) quiet).0) none in
-      let clean : cleaned g seen local now ≡ nothing = ap (timers_begun g seen local.timers now seen.all) dialogs ∙ timers in
+      let clean : begin_tick g seen local now ≡ nothing = ap (timers_begun g seen local.timers now seen.all) dialogs ∙ timers in
       let first : Drafted = lasting (expires_at lifetime now) nothing in
-      ap (λ (d : Drafted). one_thing g advertise field predefined seen local now (lasting (expires_at lifetime now) d)) clean
+      ap (λ (d : Drafted). plan_one_thing g advertise field predefined seen local now (lasting (expires_at lifetime now) d)) clean
       ∙ ap (λ b. if b then Some (plan_without (advertised g advertise field now first)) else plan_if_due g predefined seen local now first (first_due g seen local now seen.all)) told
       ∙ ap (plan_if_due g predefined seen local now first) (first_none seen.all none)
 

@@ -64,8 +64,8 @@ abbrev pub timers_begun : ℕ → Seen → List Timer → ℕ → List (List ℕ
 timers_begun g seen timers now clients d = fold (timer_begun g seen timers now) d clients
 
 -- what every tick does first: will dialogs of a minute end, and clients without a timer get one
-abbrev pub cleaned : ℕ → Seen → Local → ℕ → Drafted
-cleaned g seen local now =
+abbrev pub begin_tick : ℕ → Seen → Local → ℕ → Drafted
+begin_tick g seen local now =
     timers_begun g seen local.timers now seen.all (dialogs_ended now local.dialogs nothing)
 
 -- whether the last ADVERTISE is at least `advertise` seconds ago, or there was none
@@ -108,8 +108,8 @@ lost seen c s d =
     moved (Unbind c) (changed (Presence Lost s.duration) (published seen c s.will d))
 
 -- one try more: Resend, if an exchange is open, else Delivery
-abbrev pub retried : ℕ → Drafted → List ℕ → Row
-retried now d c = row_of follows.Resend c (moved (Retried c now) d)
+abbrev pub retry_row : ℕ → Drafted → List ℕ → Row
+retry_row now d c = row_of follows.Resend c (moved (Retried c now) d)
 
 -- the plan of what is due with a client: what expires of it is acknowledged, and nothing is sent;
 -- or it is lost; or there is one try more, and Resend; or Delivery
@@ -118,7 +118,7 @@ plan_due g predefined seen local now d c Expiry = plan_of g c seen (expire_all s
 plan_due g predefined seen local now d c Loss =
     plan_of g c seen (lost seen c (session_of seen c) d)
 plan_due g predefined seen local now d c (Retry a) =
-    deliver_next g predefined seen a now (retried now d c)
+    deliver_next g predefined seen a now (retry_row now d c)
 plan_due g predefined seen local now d c (Delivery a) =
     deliver_next g predefined seen a now (row_of follows.Delivery c d)
 
@@ -130,8 +130,8 @@ plan_if_due g predefined seen local now d (Some found) =
     plan_due g predefined seen local now d found.0 found.1
 
 -- one thing a tick: ADVERTISE; else what is due with the least client that is due; else nothing
-abbrev pub one_thing : ℕ → ℕ → List Addr → Entries → Seen → Local → ℕ → Drafted → Option Plan
-one_thing g advertise field predefined seen local now d =
+abbrev pub plan_one_thing : ℕ → ℕ → List Addr → Entries → Seen → Local → ℕ → Drafted → Option Plan
+plan_one_thing g advertise field predefined seen local now d =
     if may_advertise advertise field now local.advertised
     then Some (plan_without (advertised g advertise field now d))
     else plan_if_due g predefined seen local now d (first_due g seen local now seen.all)
@@ -140,5 +140,5 @@ one_thing g advertise field predefined seen local now d =
 -- moment at which the lifetime is over, if there is one.
 abbrev pub tick : ℕ → ℕ → ℕ → List Addr → Entries → Seen → Local → ℕ → Option Plan
 tick g lifetime advertise field predefined seen local now =
-    one_thing g advertise field predefined seen local now
-    (lasting (expires_at lifetime now) (cleaned g seen local now))
+    plan_one_thing g advertise field predefined seen local now
+    (lasting (expires_at lifetime now) (begin_tick g seen local now))

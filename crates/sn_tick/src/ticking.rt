@@ -7,7 +7,7 @@ ghost use Rattle.sn_local.specs.declared.local.LocalChange.TheVariants.{Heard, R
 ghost use Rattle.sn_plan.specs.Drafts.{moved};
 ghost use Rattle.sn_plan.specs.Others.{can_wake};
 ghost use Rattle.sn_local.specs.Seen.{seen_of};
-ghost use Rattle.sn_plan.specs.Plans.{Gives};
+ghost use Rattle.sn_plan.specs.Plans.{GivesPlan};
 ghost use Rattle.sn_plan.specs.Plans as plans;
 ghost use Rattle.sn_plan.specs.Bound as bound;
 ghost use Rattle.sn_exchange.specs.Following as following;
@@ -27,8 +27,8 @@ use sn_local::{
     Addr, Config, Dialogs, LocalChange, StepFault, WillDialog, expires_at, is_stamp_of,
 };
 use sn_plan::{
-    Draft, Follow, NewPut, Plan, Posted, Row, is_up, plan_of, plan_without, session_or, unseen,
-    view_or,
+    Draft, Follow, NewPut, Plan, Posted, Row, Scene, is_up, plan_of, plan_without, session_or,
+    unseen, view_or,
 };
 use sn_publish::{puts_of_will, retained_of_will};
 use sn_session::{Presence, Session, SessionOp, Will};
@@ -48,6 +48,19 @@ fn finished(draft: Draft, done: Result<(), NoMemory>) -> Result<Draft, NoMemory>
             Err(fault)
         }
     }
+}
+
+/// What a tick reads: the gateway's settings, what it has taken, its local state, and when it is.
+#[derive(Drop)]
+struct Turn<'a, R: Replica> {
+    /// What the gateway is told when it starts.
+    config: &'a Config,
+    /// What it has taken.
+    replica: &'a R,
+    /// What it knows beside that.
+    dialogs: &'a Dialogs,
+    /// The moment, in seconds.
+    moment: u64,
 }
 
 /// Whether the CONNECT of a will dialog is a minute ago.
@@ -104,23 +117,21 @@ pub(crate) fn needs_timer(
 }
 
 /// And then a timer for a client of this view, where it needs one.
-fn begin_timer(
+fn begin_timer<R: Replica>(
     alloc: Global,
     draft: &mut Draft,
-    gateway: u8,
-    dialogs: &Dialogs,
-    now: u64,
+    turn: &Turn<'_, R>,
     client: &ClientId,
     view: &ClientView,
 ) -> Result<(), NoMemory>
-    ensures { OnOk result (draft.new
-        ≡ (if spec.needs_timer gateway dialogs.now.local.timers client.now view.now
-        then moved (Heard client.now now) draft.old else draft.old)) }
+    ensures { OnOk result (draft.new ≡ (if spec.needs_timer turn.now.config.now.gateway
+        turn.now.dialogs.now.local.timers client.now view.now
+        then moved (Heard client.now turn.now.moment) draft.old else draft.old)) }
 {
-    if needs_timer(gateway, dialogs, client, view) {
+    if needs_timer(turn.config.gateway, turn.dialogs, client, view) {
         draft.note(LocalChange::Heard {
             client: client.copied(alloc)?,
-            moment: now,
+            moment: turn.moment,
         })?;
     }
     Ok(())
@@ -130,53 +141,38 @@ fn begin_timer(
 fn begin_timers<R: Replica>(
     alloc: Global,
     draft: &mut Draft,
-    gateway: u8,
-    replica: &R,
-    dialogs: &Dialogs,
-    now: u64,
+    turn: &Turn<'_, R>,
 ) -> Result<(), NoMemory>
-    ensures { OnOk result (draft.new
-        ≡ timers_begun gateway (seen_of (R.kept replica.now)) dialogs.now.local.timers now
-        (views.clients (R.kept replica.now)) draft.old) }
+    ensures { OnOk result (draft.new ≡ timers_begun turn.now.config.now.gateway
+        (seen_of (R.kept turn.now.replica.now)) turn.now.dialogs.now.local.timers turn.now.moment
+        (views.clients (R.kept turn.now.replica.now)) draft.old) }
 {
     let mut place = 0;
-    while let Some((behind, client, view)) = replica.client_at(place) {
-        begin_timer(alloc, draft, gateway, dialogs, now, client, view)?;
+    while let Some((behind, client, view)) = turn.replica.client_at(place) {
+        begin_timer(alloc, draft, turn, client, view)?;
         place = behind;
     }
     Ok(())
 }
 
 /// And then what every tick does first.
-fn clean<R: Replica>(
-    alloc: Global,
-    draft: &mut Draft,
-    gateway: u8,
-    replica: &R,
-    dialogs: &Dialogs,
-    now: u64,
-) -> Result<(), NoMemory>
-    ensures { OnOk result (draft.new ≡ timers_begun gateway (seen_of (R.kept replica.now))
-        dialogs.now.local.timers now (views.clients (R.kept replica.now))
-        (dialogs_ended now dialogs.now.local.dialogs draft.old)) }
+fn clean<R: Replica>(alloc: Global, draft: &mut Draft, turn: &Turn<'_, R>) -> Result<(), NoMemory>
+    ensures { OnOk result (draft.new ≡ timers_begun turn.now.config.now.gateway
+        (seen_of (R.kept turn.now.replica.now)) turn.now.dialogs.now.local.timers turn.now.moment
+        (views.clients (R.kept turn.now.replica.now))
+        (dialogs_ended turn.now.moment turn.now.dialogs.now.local.dialogs draft.old)) }
 {
-    end_dialogs(draft, now, dialogs.dialogs())?;
-    begin_timers(alloc, draft, gateway, replica, dialogs, now)
+    end_dialogs(draft, turn.moment, turn.dialogs.dialogs())?;
+    begin_timers(alloc, draft, turn)
 }
 
 /// What every tick does first.
-fn cleaned<R: Replica>(
-    alloc: Global,
-    gateway: u8,
-    replica: &R,
-    dialogs: &Dialogs,
-    now: u64,
-) -> Result<Draft, NoMemory>
-    ensures { IfOk result (λ draft. draft ≡ spec.cleaned gateway (seen_of (R.kept replica.now))
-        dialogs.now.local now) }
+fn begin_tick<R: Replica>(alloc: Global, turn: &Turn<'_, R>) -> Result<Draft, NoMemory>
+    ensures { IfOk result (λ draft. draft ≡ spec.begin_tick turn.now.config.now.gateway
+        (seen_of (R.kept turn.now.replica.now)) turn.now.dialogs.now.local turn.now.moment) }
 {
     let mut draft = Draft::new(alloc);
-    let done = clean(alloc, &mut draft, gateway, replica, dialogs, now);
+    let done = clean(alloc, &mut draft, turn);
     finished(draft, done)
 }
 
@@ -317,7 +313,7 @@ fn publish_will<R: Replica>(
 }
 
 /// And then the client is lost: its will is published, and it has no address any more.
-fn lose<R: Replica>(
+fn give_up_client<R: Replica>(
     alloc: Global,
     replica: &R,
     client: &ClientId,
@@ -341,18 +337,16 @@ fn lose<R: Replica>(
 /// And then all messages of the client that expire are acknowledged.
 fn expire<R: Replica>(
     alloc: Global,
-    replica: &R,
-    dialogs: &Dialogs,
-    now: u64,
+    turn: &Turn<'_, R>,
     client: &ClientId,
     draft: &mut Draft,
 ) -> Result<(), NoMemory>
-    ensures { OnOk result (draft.new ≡ expiry.expire_all (seen_of (R.kept replica.now))
-        dialogs.now.local now client.now draft.old) }
+    ensures { OnOk result (draft.new ≡ expiry.expire_all (seen_of (R.kept turn.now.replica.now))
+        turn.now.dialogs.now.local turn.now.moment client.now draft.old) }
 {
     let nobody = unseen(alloc);
-    let view = view_or(replica, client, &nobody);
-    let expired = expire_all(draft, dialogs, now, client, view);
+    let view = view_or(turn.replica, client, &nobody);
+    let expired = expire_all(draft, turn.dialogs, turn.moment, client, view);
     drop(nobody);
     expired
 }
@@ -361,40 +355,38 @@ fn expire<R: Replica>(
 /// the one that it is in the middle of. Nothing is sent.
 fn plan_expiry<R: Replica>(
     alloc: Global,
-    config: &Config,
-    replica: &R,
-    dialogs: &Dialogs,
-    now: u64,
+    turn: &Turn<'_, R>,
     mut draft: Draft,
     client: &ClientId,
 ) -> Result<Plan, StepFault>
-    ensures { Gives result (plans.plan_of config.now.gateway client.now
-        (seen_of (R.kept replica.now)) (expiry.expire_all (seen_of (R.kept replica.now))
-        dialogs.now.local now client.now draft)) }
+    ensures { GivesPlan result (plans.plan_of turn.now.config.now.gateway client.now
+        (seen_of (R.kept turn.now.replica.now))
+        (expiry.expire_all (seen_of (R.kept turn.now.replica.now)) turn.now.dialogs.now.local
+        turn.now.moment client.now draft)) }
 {
-    let done = expire(alloc, replica, dialogs, now, client, &mut draft);
+    let done = expire(alloc, turn, client, &mut draft);
     let draft = finished(draft, done)?;
-    plan_of(alloc, config.gateway, replica, client, draft)
+    plan_of(alloc, turn.config.gateway, turn.replica, client, draft)
 }
 
 /// The plan of a loss.
 fn plan_loss<R: Replica>(
     alloc: Global,
-    config: &Config,
-    replica: &R,
+    turn: &Turn<'_, R>,
     mut draft: Draft,
     client: &ClientId,
 ) -> Result<Plan, StepFault>
-    ensures { Gives result (plans.plan_of config.now.gateway client.now
-        (seen_of (R.kept replica.now)) (spec.lost (seen_of (R.kept replica.now)) client.now
-        (bound.session_of (seen_of (R.kept replica.now)) client.now) draft)) }
+    ensures { GivesPlan result (plans.plan_of turn.now.config.now.gateway client.now
+        (seen_of (R.kept turn.now.replica.now))
+        (spec.lost (seen_of (R.kept turn.now.replica.now)) client.now
+        (bound.session_of (seen_of (R.kept turn.now.replica.now)) client.now) draft)) }
 {
     let empty = Session::empty(alloc);
-    let session = session_or(replica, client, &empty);
-    let lost = lose(alloc, replica, client, session, &mut draft);
+    let session = session_or(turn.replica, client, &empty);
+    let lost = give_up_client(alloc, turn.replica, client, session, &mut draft);
     drop(empty);
     let draft = finished(draft, lost)?;
-    plan_of(alloc, config.gateway, replica, client, draft)
+    plan_of(alloc, turn.config.gateway, turn.replica, client, draft)
 }
 
 /// And then one try more.
@@ -409,52 +401,70 @@ fn retry(alloc: Global, draft: &mut Draft, now: u64, client: &ClientId) -> Resul
 }
 
 /// One try more: Resend follows.
-fn retried(alloc: Global, now: u64, mut draft: Draft, client: &ClientId) -> Result<Row, NoMemory>
-    ensures { IfOk result (λ row. row ≡ spec.retried now draft client.now) }
+fn retry_row(alloc: Global, now: u64, mut draft: Draft, client: &ClientId) -> Result<Row, NoMemory>
+    ensures { IfOk result (λ row. row ≡ spec.retry_row now draft client.now) }
 {
     let done = retry(alloc, &mut draft, now, client);
     let draft = finished(draft, done)?;
     Row::new(alloc, Follow::Resend, client, draft)
 }
 
+/// The plan of a row with what follows it, for its client at this address.
+fn plan_row_at<R: Replica>(
+    alloc: Global,
+    turn: &Turn<'_, R>,
+    address: Addr,
+    row: Row,
+) -> Result<Plan, StepFault>
+    ensures { GivesPlan result (following.deliver_next turn.now.config.now.gateway
+        turn.now.config.now.predefined (seen_of (R.kept turn.now.replica.now)) address
+        turn.now.moment row) }
+{
+    let scene = Scene {
+        config: turn.config,
+        replica: turn.replica,
+        dialogs: turn.dialogs,
+        from: address,
+        moment: turn.moment,
+    };
+    deliver_next(alloc, &scene, row)
+}
+
 /// The plan of a retry.
 fn plan_retry<R: Replica>(
     alloc: Global,
-    config: &Config,
-    replica: &R,
-    now: u64,
+    turn: &Turn<'_, R>,
     draft: Draft,
     client: &ClientId,
     address: Addr,
 ) -> Result<Plan, StepFault>
-    ensures { Gives result (following.deliver_next config.now.gateway config.now.predefined
-        (seen_of (R.kept replica.now)) address now (spec.retried now draft client.now)) }
+    ensures { GivesPlan result (following.deliver_next turn.now.config.now.gateway
+        turn.now.config.now.predefined (seen_of (R.kept turn.now.replica.now)) address
+        turn.now.moment (spec.retry_row turn.now.moment draft client.now)) }
 {
-    let row = retried(alloc, now, draft, client)?;
-    deliver_next(alloc, config, replica, address, now, row)
+    let row = retry_row(alloc, turn.moment, draft, client)?;
+    plan_row_at(alloc, turn, address, row)
 }
 
 /// The plan of what is due with a client.
 fn plan_due<R: Replica>(
     alloc: Global,
-    config: &Config,
-    replica: &R,
-    dialogs: &Dialogs,
-    now: u64,
+    turn: &Turn<'_, R>,
     draft: Draft,
     client: &ClientId,
     due: Due,
 ) -> Result<Plan, StepFault>
-    ensures { Gives result (spec.plan_due config.now.gateway config.now.predefined
-        (seen_of (R.kept replica.now)) dialogs.now.local now draft client.now due) }
+    ensures { GivesPlan result (spec.plan_due turn.now.config.now.gateway
+        turn.now.config.now.predefined (seen_of (R.kept turn.now.replica.now))
+        turn.now.dialogs.now.local turn.now.moment draft client.now due) }
 {
     match due {
-        Due::Expiry => plan_expiry(alloc, config, replica, dialogs, now, draft, client),
-        Due::Loss => plan_loss(alloc, config, replica, draft, client),
-        Due::Retry(address) => plan_retry(alloc, config, replica, now, draft, client, address),
+        Due::Expiry => plan_expiry(alloc, turn, draft, client),
+        Due::Loss => plan_loss(alloc, turn, draft, client),
+        Due::Retry(address) => plan_retry(alloc, turn, draft, client, address),
         Due::Delivery(address) => {
             let row = Row::new(alloc, Follow::Delivery, client, draft)?;
-            deliver_next(alloc, config, replica, address, now, row)
+            plan_row_at(alloc, turn, address, row)
         }
     }
 }
@@ -462,21 +472,17 @@ fn plan_due<R: Replica>(
 /// The plan of what is due, if something is.
 fn plan_if_due<R: Replica>(
     alloc: Global,
-    config: &Config,
-    replica: &R,
-    dialogs: &Dialogs,
-    now: u64,
+    turn: &Turn<'_, R>,
     draft: Draft,
     found: Option<(ClientId, Due)>,
 ) -> Result<Plan, StepFault>
-    ensures { Gives result (spec.plan_if_due config.now.gateway config.now.predefined
-        (seen_of (R.kept replica.now)) dialogs.now.local now draft found) }
+    ensures { GivesPlan result (spec.plan_if_due turn.now.config.now.gateway
+        turn.now.config.now.predefined (seen_of (R.kept turn.now.replica.now))
+        turn.now.dialogs.now.local turn.now.moment draft found) }
 {
     match found {
         None => Ok(plan_without(alloc, draft)),
-        Some((client, due)) => {
-            plan_due(alloc, config, replica, dialogs, now, draft, &client, due)
-        }
+        Some((client, due)) => plan_due(alloc, turn, draft, &client, due),
     }
 }
 
@@ -487,7 +493,7 @@ fn plan_advertisement(
     now: u64,
     draft: Draft,
 ) -> Result<Plan, StepFault>
-    ensures { Gives result (Some (plans.plan_without (spec.advertised config.now.gateway
+    ensures { GivesPlan result (Some (plans.plan_without (spec.advertised config.now.gateway
         config.now.advertise config.now.field now draft))) }
 {
     let field = config.field.as_slice();
@@ -498,18 +504,19 @@ fn plan_advertisement(
 /// The plan of what is due with the least client with which something is due, if there is one.
 fn plan_first<R: Replica>(
     alloc: Global,
-    config: &Config,
-    replica: &R,
-    dialogs: &Dialogs,
-    now: u64,
+    turn: &Turn<'_, R>,
     draft: Draft,
 ) -> Result<Plan, StepFault>
-    ensures { Gives result (spec.plan_if_due config.now.gateway config.now.predefined
-        (seen_of (R.kept replica.now)) dialogs.now.local now draft (dues.first_due config.now.gateway
-        (seen_of (R.kept replica.now)) dialogs.now.local now (seen_of (R.kept replica.now)).all)) }
+    ensures { GivesPlan result (spec.plan_if_due turn.now.config.now.gateway
+        turn.now.config.now.predefined (seen_of (R.kept turn.now.replica.now))
+        turn.now.dialogs.now.local turn.now.moment draft
+        (dues.first_due turn.now.config.now.gateway (seen_of (R.kept turn.now.replica.now))
+        turn.now.dialogs.now.local turn.now.moment
+        (seen_of (R.kept turn.now.replica.now)).all)) }
 {
-    match first_due(alloc, config.gateway, replica, dialogs, now) {
-        Ok(found) => plan_if_due(alloc, config, replica, dialogs, now, draft, found),
+    let gateway = turn.config.gateway;
+    match first_due(alloc, gateway, turn.replica, turn.dialogs, turn.moment) {
+        Ok(found) => plan_if_due(alloc, turn, draft, found),
         Err(_) => {
             drop(draft);
             Err(StepFault::Memory)
@@ -518,22 +525,23 @@ fn plan_first<R: Replica>(
 }
 
 /// The plan of one thing.
-fn one_thing<R: Replica>(
+fn plan_one_thing<R: Replica>(
     alloc: Global,
-    config: &Config,
-    replica: &R,
-    dialogs: &Dialogs,
-    now: u64,
+    turn: &Turn<'_, R>,
     draft: Draft,
 ) -> Result<Plan, StepFault>
-    ensures { Gives result (spec.one_thing config.now.gateway config.now.advertise config.now.field
-        config.now.predefined (seen_of (R.kept replica.now)) dialogs.now.local now draft) }
+    ensures { GivesPlan result (spec.plan_one_thing turn.now.config.now.gateway
+        turn.now.config.now.advertise turn.now.config.now.field turn.now.config.now.predefined
+        (seen_of (R.kept turn.now.replica.now)) turn.now.dialogs.now.local turn.now.moment
+        draft) }
 {
+    let config = turn.config;
     let field = config.field.as_slice();
-    if may_advertise(config.advertise, field, now, dialogs.advertised()) {
-        return plan_advertisement(alloc, config, now, draft);
+    let last = turn.dialogs.advertised();
+    if may_advertise(config.advertise, field, turn.moment, last) {
+        return plan_advertisement(alloc, config, turn.moment, draft);
     }
-    plan_first(alloc, config, replica, dialogs, now, draft)
+    plan_first(alloc, turn, draft)
 }
 
 /// A tick: will dialogs of a minute end, clients without a timer get one, and then one thing is
@@ -547,12 +555,19 @@ pub fn tick<R: Replica>(
     dialogs: &Dialogs,
     now: u64,
 ) -> Result<Plan, StepFault>
-    ensures { Gives result (spec.tick config.now.gateway config.now.lifetime config.now.advertise
+    ensures { GivesPlan result
+        (spec.tick config.now.gateway config.now.lifetime config.now.advertise
         config.now.field config.now.predefined (seen_of (R.kept replica.now)) dialogs.now.local
         now) }
 {
-    let mut draft = cleaned(alloc, config.gateway, replica, dialogs, now)?;
+    let turn = Turn {
+        config,
+        replica,
+        dialogs,
+        moment: now,
+    };
+    let mut draft = begin_tick(alloc, &turn)?;
     let moment = expires_at(config.lifetime, now);
     draft.last_until(moment);
-    one_thing(alloc, config, replica, dialogs, now, draft)
+    plan_one_thing(alloc, &turn, draft)
 }

@@ -4,7 +4,7 @@ use Rattle.std.specs.Prelude.{codes}
 use Rattle.sn_topic.specs.Levels.{levels, has_wildcard, wildcards_stand_alone}
 use Rattle.sn_topic.specs.Topics.{IsName, IsFilter}
 use Rattle.sn_topic.specs.Matching.{Matches, is_match}
-use Rattle.sn_topic.specs.Table.{is_table, name_of, ids_of, least}
+use Rattle.sn_topic.specs.Table.{is_table, name_of_id, ids_of, least}
 use Rattle.sn_topic.proofs.Rule.{is_match-Matches}
 
 -- levels may be empty
@@ -87,7 +87,7 @@ table_with_65535 = refl
 table_twice : is_table ((5, codes "t/a") ∷ (6, codes "t/a") ∷ (5, codes "t/b") ∷ []) ≡ false
 table_twice = refl
 
-name_of_5 : name_of 5 ((5, codes "t/a") ∷ []) ≡ Some (codes "t/a")
+name_of_5 : name_of_id 5 ((5, codes "t/a") ∷ []) ≡ Some (codes "t/a")
 name_of_5 = refl
 
 least_of_three : least (ids_of (codes "t") ((7, codes "t") ∷ (3, codes "t") ∷ (2, codes "u") ∷ (5, codes "t") ∷ [])) ≡ Some 3

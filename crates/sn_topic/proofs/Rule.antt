@@ -4,7 +4,7 @@ use Rattle.std.specs.Str.{bytes_eq}
 use Rattle.std.proofs.lemmas.Bool.{and_parts, and_from, or_cases, or_left, or_right, eqb-true}
 use Rattle.std.proofs.lemmas.Slice.Eq.{bytes_eq-Decides}
 use Rattle.sn_topic.specs.Levels.{begins_with_wildcard, levels, is_only, is_plus, is_hash}
-use Rattle.sn_topic.specs.Matching.{Agrees, AgreeOneByOne, AgreeUpToHash, Matches, begins_with_dollar, level_agrees, no_level, levels_match, is_match}
+use Rattle.sn_topic.specs.Matching.{LevelAgrees, AgreeOneByOne, AgreeUpToHash, Matches, begins_with_dollar, level_agrees, no_level, levels_match, is_match}
 
 -- a level that is one octet alone
 only_is : (wanted : ℕ) (level : List ℕ) → is_only wanted level ≡ true → level ≡ wanted ∷ []
@@ -13,12 +13,12 @@ only_is wanted (octet ∷ []) h = ap (λ n. n ∷ []) (eqb-true octet wanted h)
 only_is wanted (octet ∷ next ∷ more) h = cc
 
 -- levels that pass the test agree
-agrees_from : (asked given : List ℕ) → level_agrees asked given ≡ true → Agrees asked given
+agrees_from : (asked given : List ℕ) → level_agrees asked given ≡ true → LevelAgrees asked given
 agrees_from asked given h =
-    elim (or_cases (is_plus asked) (bytes_eq asked given) h) as (λ _. Agrees asked given) [ inl plus ↦ inl (only_is 43 asked plus) | inr same ↦ inr ((bytes_eq-Decides asked given).0 same) ]
+    elim (or_cases (is_plus asked) (bytes_eq asked given) h) as (λ _. LevelAgrees asked given) [ inl plus ↦ inl (only_is 43 asked plus) | inr same ↦ inr ((bytes_eq-Decides asked given).0 same) ]
 
 -- levels that agree pass the test
-agrees_to : (asked given : List ℕ) → Agrees asked given → level_agrees asked given ≡ true
+agrees_to : (asked given : List ℕ) → LevelAgrees asked given → level_agrees asked given ≡ true
 agrees_to asked given (inl e) =
     let P : List ℕ → Type 0 = λ level. is_plus level ≡ true in
     or_left (is_plus asked) (bytes_eq asked given) (subst P (sym e) refl)
@@ -32,7 +32,7 @@ hash_last asked (next ∷ more) given h =
     cc
 
 -- one more level that agrees
-one_more : (asked given : List ℕ) (rest others : List (List ℕ)) → Agrees asked given → AgreeOneByOne rest others ⊎ AgreeUpToHash rest others → AgreeOneByOne (asked ∷ rest) (given ∷ others) ⊎ AgreeUpToHash (asked ∷ rest) (given ∷ others)
+one_more : (asked given : List ℕ) (rest others : List (List ℕ)) → LevelAgrees asked given → AgreeOneByOne rest others ⊎ AgreeUpToHash rest others → AgreeOneByOne (asked ∷ rest) (given ∷ others) ⊎ AgreeUpToHash (asked ∷ rest) (given ∷ others)
 one_more asked given rest others agree (inl all) = inl (agree, all)
 one_more asked given rest others agree (inr (front, first, more, is, was, all)) =
     inr (asked ∷ front, given ∷ first, more, ap (λ levels. asked ∷ levels) is, ap (λ levels. given ∷ levels) was, (agree, all))

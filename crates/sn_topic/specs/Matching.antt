@@ -4,15 +4,15 @@ use Rattle.std.specs.Str.{bytes_eq}
 use Rattle.sn_topic.specs.Levels.{begins_with_wildcard, is_plus, is_hash, levels}
 
 -- a level of a filter agrees with a level of a name: it is `+` (43), or the two are equal
-abbrev pub Agrees : List ℕ → List ℕ → Type 0
-Agrees asked given = (asked ≡ 43 ∷ []) ⊎ (asked ≡ given)
+abbrev pub LevelAgrees : List ℕ → List ℕ → Type 0
+LevelAgrees asked given = (asked ≡ 43 ∷ []) ⊎ (asked ≡ given)
 
 -- the levels are as many on both sides, and agree one by one: each is `+`, or the same
 abbrev pub AgreeOneByOne : List (List ℕ) → List (List ℕ) → Type 0
 AgreeOneByOne [] [] = ⊤
 AgreeOneByOne [] (given ∷ others) = ⊥
 AgreeOneByOne (asked ∷ rest) [] = ⊥
-AgreeOneByOne (asked ∷ rest) (given ∷ others) = Agrees asked given × AgreeOneByOne rest others
+AgreeOneByOne (asked ∷ rest) (given ∷ others) = LevelAgrees asked given × AgreeOneByOne rest others
 
 -- the filter is some levels and then `#` (35), and the first levels of the name agree with those
 abbrev pub AgreeUpToHash : List (List ℕ) → List (List ℕ) → Type 0
@@ -32,7 +32,7 @@ Matches filter name =
     (AgreeOneByOne (levels filter) (levels name) ⊎ AgreeUpToHash (levels filter) (levels name))
     × ¬ (IsTrue (begins_with_wildcard filter) × IsTrue (begins_with_dollar name))
 
--- `Agrees` as a test
+-- `LevelAgrees` as a test
 abbrev pub level_agrees : List ℕ → List ℕ → Bool
 level_agrees asked given = is_plus asked || bytes_eq asked given
 

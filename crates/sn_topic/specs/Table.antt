@@ -23,8 +23,8 @@ is_table [] = true
 is_table (entry ∷ later) = is_topic_id entry.0 && not (has_id entry.0 later) && is_table later
 
 -- the name that an id stands for
-abbrev pub name_of : ℕ → Entries → Option (List ℕ)
-name_of id entries = option_map (λ entry. entry.1) (find (λ entry. entry.0 == id) entries)
+abbrev pub name_of_id : ℕ → Entries → Option (List ℕ)
+name_of_id id entries = option_map (λ entry. entry.1) (find (λ entry. entry.0 == id) entries)
 
 -- the ids that stand for a name
 abbrev pub ids_of : List ℕ → Entries → List ℕ

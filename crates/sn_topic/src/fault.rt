@@ -1,7 +1,7 @@
 //! Why a topic name, a filter or a table of predefined ids is refused.
 
 ghost use Rattle.std.specs.Prelude.{◌≡◌};
-ghost use Rattle.sn_topic.specs.Fault.{number_of};
+ghost use Rattle.sn_topic.specs.Fault.{topic_fault_number};
 ghost use Rattle.sn_topic.specs.declared.fault.TopicFault.TheVariants as faults;
 
 use octets::NoMemory;
@@ -40,7 +40,7 @@ impl fmt::Display for TopicFault {
 impl TopicFault {
     /// The number by which reports name the fault, 1 to 5.
     pub fn number(&self) -> u8
-        ensures { result ≡ number_of self.now }
+        ensures { result ≡ topic_fault_number self.now }
     {
         match self {
             TopicFault::Empty => 1,

@@ -2,7 +2,7 @@
 
 ghost use Rattle.std.specs.Prelude.{◌≡◌, IfOk, IfErr, IsErrOf, IsTrue, IsFalse, ◌↔◌, ◌≢◌, Err, [], ◌≤◌, MatchOption, Contains, All};
 ghost use Rattle.std.specs.Option.{option_copied};
-ghost use Rattle.sn_topic.specs.Table.{name_of, ids_of, least};
+ghost use Rattle.sn_topic.specs.Table.{name_of_id, ids_of, least};
 ghost use Rattle.sn_topic.specs.Table as spec;
 
 use crate::fault::TopicFault;
@@ -51,7 +51,7 @@ impl Predefined {
 
     /// The name that an id stands for.
     pub fn name(&self, id: u16) -> Option<&TopicName>
-        ensures { option_copied result ≡ name_of id self.now }
+        ensures { option_copied result ≡ name_of_id id self.now }
     {
         self.entries
             .iter()

@@ -1,5 +1,5 @@
-//! Which datagrams become calls: those that are frames, but for a CONNECT of a client that is not let
-//! in.
+//! Which datagrams become calls: those that are frames, but for a CONNECT of a client that is not
+//! let in.
 
 ghost use Rattle.std.specs.Prelude.{◌≡◌, ◌≢◌};
 ghost use Rattle.sn_frame.specs.declared.fault.FrameFault.{FrameFault};
@@ -22,7 +22,7 @@ pub(crate) const CONGESTION: u8 = 1;
 
 /// After how many seconds the list of those that are known is old: over links others may have
 /// become known.
-const A_WHILE: u64 = 10;
+const KNOWN_SECONDS: u64 = 10;
 
 /// What becomes of a datagram.
 #[derive(Clone, Copy, PartialEq, Eq)]
@@ -36,7 +36,7 @@ pub enum Verdict {
 }
 
 /// Which client ids have come in. The ids are kept for the life of a field, so neither a sensor
-/// that has another id each day nor a stranger is to use them up.
+/// that has another id each day nor a stranger is to use them up. Only the reader's thread asks it.
 #[derive(Drop)]
 pub struct Admission {
     /// The patterns of the ids that come in: all, where there is none.
@@ -75,7 +75,7 @@ impl Admission {
 
     /// Whether others may have become known since they were looked up.
     pub(crate) fn is_old(&self, second: u64) -> bool {
-        second.saturating_sub(self.looked) >= A_WHILE
+        second.saturating_sub(self.looked) >= KNOWN_SECONDS
     }
 
     /// What becomes of a datagram that came in this second. What may be a frame is never dropped.

@@ -15,10 +15,9 @@ use std::mem;
 use std::net::TcpStream;
 use std::sync::atomic::{AtomicU64, Ordering};
 use std::sync::{Mutex, Wait};
-use std::time::Clock;
 
 /// How many milliseconds pass between two glances.
-const A_GLANCE: u64 = 5_000;
+const GLANCE_INTERVAL_MS: u64 = 5_000;
 
 /// Of how many shifts the calls wait at most.
 const MOST_SHIFTS: usize = 64;
@@ -239,20 +238,20 @@ impl Board {
     }
 
     /// A write failed.
-    pub(crate) fn count_failure<C: Clock>(&self, clock: &C) {
+    pub(crate) fn count_failure(&self, clock: &HostRuntime) {
         self.add(Number::Failures);
         self.note_failed(clock);
     }
 
     /// A write has failed, and the gateway may not yet write again.
-    pub(crate) fn note_failed<C: Clock>(&self, clock: &C) {
+    pub(crate) fn note_failed(&self, clock: &HostRuntime) {
         self.set(Number::Failed, millisecond(clock).saturating_add(1));
     }
 
     /// Whether it is time for a glance. From now on it was.
-    pub(crate) fn may_glance<C: Clock>(&self, clock: &C) -> bool {
+    pub(crate) fn may_glance(&self, clock: &HostRuntime) -> bool {
         let now = millisecond(clock);
-        if now.saturating_sub(self.get(Number::Glanced)) < A_GLANCE {
+        if now.saturating_sub(self.get(Number::Glanced)) < GLANCE_INTERVAL_MS {
             return false;
         }
         self.set(Number::Glanced, now);

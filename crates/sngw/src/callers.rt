@@ -10,7 +10,6 @@ use std::alloc::Global;
 use std::io::{Error, ErrorKind, Read, Write};
 use std::mem;
 use std::net::{Shutdown, TcpListener, TcpStream};
-use std::time::Clock;
 
 /// How many are served side by side.
 const MOST_CALLERS: usize = 32;
@@ -30,7 +29,8 @@ const PIECE: usize = 4_096;
 /// How many octets are written at once.
 const LARGEST_WRITE: usize = 65_536;
 
-/// Somebody who asks the page.
+/// Somebody who asks the page. Only the watcher's thread has callers, and serves them without a
+/// lock.
 #[derive(Drop)]
 pub struct Caller {
     stream: TcpStream,
@@ -51,8 +51,8 @@ pub struct Caller {
 }
 
 /// Takes those who call, as many as there is room for.
-pub(crate) fn take_calls<T: Clock>(
-    rt: &T,
+pub(crate) fn take_calls(
+    rt: &HostRuntime,
     alloc: Global,
     listener: &TcpListener,
     callers: &mut Vec<Caller>,
@@ -84,8 +84,8 @@ fn take_call(alloc: Global, callers: &mut Vec<Caller>, stream: TcpStream, began:
 }
 
 /// Goes on with all callers, and closes those that are served. Whether one is left.
-pub(crate) fn serve_calls<T: Clock>(
-    rt: &T,
+pub(crate) fn serve_calls(
+    rt: &HostRuntime,
     alloc: Global,
     callers: &mut Vec<Caller>,
     piece: &mut [u8],

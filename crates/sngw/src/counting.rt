@@ -1,10 +1,12 @@
 //! The numbers of a report, from what is counted and gathered.
 //!
-//! They are counted apart: if memory runs out, the report keeps those of the last time.
+//! They are counted apart: if memory runs out, the report keeps those of the last time. The
+//! watcher's thread counts them, and takes no lock for that.
 
-use crate::board::{Board, Number, Shared};
+use crate::board::{Board, Number};
 use crate::gathering::{Gathered, KnownLink, is_at, no_link};
 use crate::keeping::length_of;
+use crate::program::Program;
 use gw_link::{LinkCounts, Origin};
 use gw_main::options::Settings;
 use gw_report::{DeltaFault, Glimpse, Label, Link, Numbers, Place, Report, Sample, Seen, Singles};
@@ -14,7 +16,7 @@ use sn_frame::MsgType;
 use sn_plan::MAX_PENDING;
 use sn_session::Presence;
 use std::alloc::Global;
-use std::fs::{File, Files};
+use std::fs::File;
 use std::io::Read;
 use std::mem;
 
@@ -25,7 +27,7 @@ const NEAR_FULL: usize = MAX_PENDING / 4 * 3;
 pub(crate) const MANY_TOPICS: usize = 240;
 
 /// How many octets a page of memory has.
-const A_PAGE: u64 = 4_096;
+const PAGE_OCTETS: u64 = 4_096;
 
 /// How many octets of `/proc/self/statm` are read.
 const STATM: usize = 128;
@@ -59,27 +61,16 @@ pub(crate) fn no_numbers(alloc: Global) -> Numbers {
     }
 }
 
-/// The numbers of now are in the report. If memory runs out, they are those of the last time.
-pub(crate) fn renew_numbers<T: Files<File = File>>(
-    rt: &T,
-    alloc: Global,
-    settings: &Settings,
-    shared: &Shared,
+/// Puts the numbers of now into the report. If memory runs out, they are those of the last time.
+/// Runs in the watcher's thread, and waits for no lock.
+pub(crate) fn renew_numbers<T>(
+    program: &Program<'_, T>,
     gathered: &Gathered,
     report: &mut Report,
     now: u64,
 ) {
-    let mut numbers = no_numbers(alloc);
-    if count_all(
-        rt,
-        alloc,
-        settings,
-        shared,
-        gathered,
-        report,
-        &mut numbers,
-        now,
-    ) {
+    let mut numbers = no_numbers(program.alloc);
+    if count_all(program, gathered, report, &mut numbers, now) {
         drop(mem::replace(&mut report.numbers, numbers));
     } else {
         drop(numbers);
@@ -87,41 +78,36 @@ pub(crate) fn renew_numbers<T: Files<File = File>>(
 }
 
 /// Counts all numbers. Whether there was memory for them.
-fn count_all<T: Files<File = File>>(
-    rt: &T,
-    alloc: Global,
-    settings: &Settings,
-    shared: &Shared,
+fn count_all<T>(
+    program: &Program<'_, T>,
     gathered: &Gathered,
     report: &Report,
     numbers: &mut Numbers,
     now: u64,
 ) -> bool {
     let seen = report.clients.as_slice();
-    count_singles(rt, &mut numbers.singles, &shared.board, gathered, now);
-    count_clients(&mut numbers.singles, settings.gateway, seen);
-    count_parts(rt, alloc, settings, shared, gathered, seen, numbers)
-        && count_links(settings, &shared.board, gathered, numbers, now)
+    let board = &program.shared.board;
+    count_singles(program.host, &mut numbers.singles, board, gathered, now);
+    count_clients(&mut numbers.singles, program.settings.gateway, seen);
+    count_parts(program, gathered, seen, numbers)
+        && count_links(program.settings, board, gathered, numbers, now)
 }
 
 /// The numbers with a label, without those of links. Whether there was memory for them.
-fn count_parts<T: Files<File = File>>(
-    rt: &T,
-    alloc: Global,
-    settings: &Settings,
-    shared: &Shared,
+fn count_parts<T>(
+    program: &Program<'_, T>,
     gathered: &Gathered,
     seen: &[Seen],
     numbers: &mut Numbers,
 ) -> bool {
-    let board = &shared.board;
+    let board = &program.shared.board;
     add_frames(&mut numbers.frames_received, board, true)
         && add_frames(&mut numbers.datagrams_sent, board, false)
         && add_all(&mut numbers.calls, gathered.calls.as_slice())
         && add_compactions(&mut numbers.compactions, board)
         && add_reopenings(&mut numbers.reopenings, board)
         && add_presences(&mut numbers.clients, seen)
-        && add_lengths(rt, alloc, &mut numbers.journal_octets, settings)
+        && add_lengths(program, &mut numbers.journal_octets)
         && add_origins(&mut numbers.messages_known, gathered.known.as_slice())
 }
 
@@ -131,8 +117,8 @@ fn add(all: &mut Sequence<Sample>, label: Label, value: u64) -> bool {
 }
 
 /// The numbers without a label, but for those of clients.
-fn count_singles<T: Files<File = File>>(
-    rt: &T,
+fn count_singles(
+    rt: &HostRuntime,
     singles: &mut Singles,
     board: &Board,
     gathered: &Gathered,
@@ -320,15 +306,10 @@ fn add_origins(all: &mut Sequence<Sample>, known: &[(u8, u64)]) -> bool {
 
 /// The lengths of both files of the journal; 0 for one of which the system does not tell. Whether
 /// there was memory for them.
-fn add_lengths<T: Files<File = File>>(
-    rt: &T,
-    alloc: Global,
-    all: &mut Sequence<Sample>,
-    settings: &Settings,
-) -> bool {
-    let path = settings.journal.as_str();
-    let first = length_of(rt, alloc, path, 0).unwrap_or(0);
-    let second = length_of(rt, alloc, path, 1).unwrap_or(0);
+fn add_lengths<T>(program: &Program<'_, T>, all: &mut Sequence<Sample>) -> bool {
+    let path = program.settings.journal.as_str();
+    let first = length_of(program.host, program.alloc, path, 0).unwrap_or(0);
+    let second = length_of(program.host, program.alloc, path, 1).unwrap_or(0);
     add(all, Label::FirstSlot, first) && add(all, Label::SecondSlot, second)
 }
 
@@ -439,13 +420,13 @@ fn add_refusals(all: &mut Sequence<Sample>, place: Place, counts: LinkCounts) ->
 }
 
 /// How many octets of memory the process has; 0 if the system does not tell.
-fn resident<T: Files<File = File>>(rt: &T) -> u64 {
+fn resident(rt: &HostRuntime) -> u64 {
     match File::open(rt, "/proc/self/statm") {
         Ok(mut file) => {
             let mut octets = [0u8; STATM];
             let pages = pages_of(&mut file, &mut octets);
             drop(file);
-            pages.saturating_mul(A_PAGE)
+            pages.saturating_mul(PAGE_OCTETS)
         }
         Err(_) => 0,
     }

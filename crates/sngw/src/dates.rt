@@ -8,21 +8,17 @@
 ghost use Rattle.std.specs.Prelude.{◌≡◌, if◌then◌else◌};
 ghost use Rattle.gw_wire.specs.Clock as clocks;
 
-use crate::board::{Number, Shared};
-use crate::late::Inlet;
-use crate::lines::Said;
+use crate::board::Number;
+use crate::held_over::Inlet;
+use crate::program::{Gateway, Program};
 use crate::running::tell;
 use crate::stop::Stop;
-use gw_main::number_of;
+use gw_main::begin_fault_number;
 use gw_main::options::Settings;
-use gw_node::Node;
 use gw_wire::{FieldClock, date, is_astray, is_date};
-use jr_disk::Disk;
-use rep_model::Replica;
 use std::alloc::Global;
-use std::io::{Eprint, Print, Write};
+use std::io::Write;
 use std::sync::Wait;
-use std::time::Clock;
 
 /// What is said if messages get no lifetime, since the machine has no date.
 const UNDATED: &str = "date: before 2026: messages get no lifetime until it is set";
@@ -45,55 +41,58 @@ pub(crate) fn hold_lifetime<E: Write>(settings: &mut Settings, today: u64, err: 
     lifetime
 }
 
-/// Moments go by the date from now on. No other thread looks at the clock meanwhile: it is looked at
-/// here, so that the next look takes nothing that passed before for a standing still since then. If
-/// the machine had no date when the gateway was opened, or has none now, moments go by that of the
-/// opening: so the gateway is opened again once one is set.
-pub(crate) fn begin_dates<T: Clock>(rt: &T, clock: &FieldClock, opened: u64) {
+/// Moments go by the date from now on. No other thread looks at the clock meanwhile: it is looked
+/// at here, so that the next look takes nothing that passed before for a standing still since then.
+/// If the machine had no date when the gateway was opened, or has none now, moments go by that of
+/// the opening: so the gateway is opened again once one is set.
+pub(crate) fn begin_dates(rt: &HostRuntime, clock: &FieldClock, opened: u64) {
     let today = date(rt);
     let are_dates = is_date(opened) && is_date(today);
     let _ = clock.look(rt);
     clock.set(if are_dates { today } else { opened });
 }
 
-/// A gateway after a shift. If the date is far from the moment, or was set, it is opened anew by the
-/// date, with this lifetime, and the links are closed. A date that was set may be near the moment of
-/// a gateway that stood still; if that were let be, each shift would close for it. A datagram that
-/// came late comes by the date as well. While the gateway is halted it is let be: its disk may fail.
-/// So it is if the date cannot be read, and is 0. The moment is that of the last look in the shift:
-/// whoever looks next finds whether the gateway stood still since then.
-pub(crate) fn by_date<T, R, D>(
-    rt: &T,
-    alloc: Global,
-    node: Node<R, D>,
+/// A gateway after a shift. If the date is far from the moment, or was set, it is opened anew by
+/// the date, with the lifetime of the settings, and the links are closed. Runs in the thread of
+/// shifts. A date that was set may be near the moment of a gateway that stood still; if that were
+/// let be, each shift would close for it. A datagram that came late comes by the date as well.
+/// While the gateway is halted it is let be: its disk may fail. So it is if the date cannot be
+/// read, and is 0. The moment is that of the last look in the shift: whoever looks next finds
+/// whether the gateway stood still since then.
+pub(crate) fn by_date<T: Wait>(
+    program: &Program<'_, T>,
+    node: Gateway,
     inlet: &mut Inlet,
-    shared: &Shared,
-    lifetime: u32,
-    said: Said<'_>,
-) -> Result<Node<R, D>, Stop>
-where
-    T: Wait + Clock + Print + Eprint,
-    R: Replica,
-    D: Disk + Drop,
-{
-    let today = date(rt);
-    let moment = shared.pool.clock.moment();
-    let is_far = is_astray(moment, today) || shared.pool.clock.has_leapt(rt);
+) -> Result<Gateway, Stop> {
+    let rt = program.rt;
+    let host = program.host;
+    let pool = &program.shared.pool;
+    let today = date(host);
+    let moment = pool.clock.moment();
+    let is_far = is_astray(moment, today) || pool.clock.has_leapt(host);
     if node.is_halted() || today == 0 || !is_far {
         return Ok(node);
     }
-    said.err.say(rt, line_of(alloc, moment, today));
-    let lasts = lifetime_at(lifetime, today);
-    if lasts != lifetime {
-        said.err.say(rt, String::from_str(alloc, UNDATED).ok());
-    }
-    let opened = opened_with(alloc, node, lasts)?;
-    begin_dates(rt, &shared.pool.clock, today);
-    shared.board.add(Number::ReopenedBetween);
-    shared.pool.close_all(rt);
-    inlet.late.come_at(shared.pool.clock.moment());
-    tell(rt, alloc, &opened, said);
+    say_date(program, moment, today);
+    let lasts = lifetime_at(program.settings.lifetime, today);
+    let opened = opened_with(program.alloc, node, lasts)?;
+    begin_dates(host, &pool.clock, today);
+    program.shared.board.add(Number::ReopenedBetween);
+    pool.close_all(rt);
+    inlet.late.come_at(pool.clock.moment());
+    tell(program, &opened);
     Ok(opened)
+}
+
+/// Says how far the date is from the moment, and that messages get no lifetime if they get none at
+/// that date.
+fn say_date<T: Wait>(program: &Program<'_, T>, moment: u64, today: u64) {
+    let err = program.said.err;
+    let lifetime = program.settings.lifetime;
+    err.say(program.rt, line_of(program.alloc, moment, today));
+    if lifetime_at(lifetime, today) != lifetime {
+        err.say(program.rt, String::from_str(program.alloc, UNDATED).ok());
+    }
 }
 
 /// The line that says how far the date is from the moment. `None` if memory runs out.
@@ -107,18 +106,14 @@ fn line_of(alloc: Global, moment: u64, today: u64) -> Option<String> {
 }
 
 /// A gateway that is opened anew, with this lifetime.
-fn opened_with<R: Replica, D: Disk + Drop>(
-    alloc: Global,
-    node: Node<R, D>,
-    lifetime: u32,
-) -> Result<Node<R, D>, Stop> {
+fn opened_with(alloc: Global, node: Gateway, lifetime: u32) -> Result<Gateway, Stop> {
     let (mut config, disk) = node.into_parts();
     config.lifetime = lifetime;
-    match Node::open(alloc, config, disk) {
+    match Gateway::open(alloc, config, disk) {
         Ok(opened) => Ok(opened),
         Err((disk, fault)) => {
             drop(disk);
-            let number = number_of(&fault);
+            let number = begin_fault_number(&fault);
             drop(fault);
             Err(Stop::Reopening(number))
         }

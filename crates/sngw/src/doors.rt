@@ -1,16 +1,18 @@
 //! How links are made: peers are dialled, others are accepted.
+//!
+//! Each door has a thread, from the begin of the program to its end. It takes the pool's lock to
+//! put a link there, and none while it dials or waits.
 
 use crate::board::{Number, Shared};
-use crate::lines::Said;
-use gw_link::{Link, Origin, Phase, Report, Stage, Trouble};
+use crate::program::Program;
+use gw_link::{Link, Origin, Phase, Report, Trouble};
 use gw_main::options::Settings;
 use gw_relay::next_pause;
 use gw_run::{MOST_ACCEPTED, Pool};
 use gw_wire::{address, second};
 use sn_local::Addr;
 use std::alloc::Global;
-use std::io::{Eprint, Print};
-use std::net::{Net, TcpListener, TcpStream};
+use std::net::{TcpListener, TcpStream};
 use std::sync::Wait;
 use std::thread;
 use std::thread::Threads;
@@ -18,20 +20,20 @@ use std::time::{Clock, Duration};
 
 /// How many milliseconds a read of a link waits. So often a link looks for deltas to tell, and
 /// whether its shift is over.
-const A_READ: u64 = 10;
+const READ_TIMEOUT_MS: u64 = 10;
 
 /// How many milliseconds a write of a link waits. What the other end has not taken by then waits,
 /// and what it says is read.
-const A_WRITE: u64 = 10;
+const WRITE_TIMEOUT_MS: u64 = 10;
 
 /// How many milliseconds a peer has to take a call: one that is far away is linked too.
-const A_DIAL: u64 = 10_000;
+const DIAL_TIMEOUT_MS: u64 = 10_000;
 
 /// How many milliseconds pass before a peer is dialled again.
-const A_PAUSE: u64 = 1_000;
+const REDIAL_WAIT_MS: u64 = 1_000;
 
 /// How many milliseconds pass before it is looked again whether somebody dials.
-const A_LOOK: u64 = 50;
+const ACCEPT_WAIT_MS: u64 = 50;
 
 /// How many lines are told at once.
 const MOST_LINES: usize = 16;
@@ -66,50 +68,40 @@ pub(crate) fn doors_of(alloc: Global, settings: &Settings) -> Option<Vec<Door>> 
 }
 
 /// Keeps the doors open until the program's work is over, each in a thread of its own.
-pub(crate) fn keep_all<T>(
-    rt: &T,
-    alloc: Global,
-    doors: &mut [Door],
-    listener: &TcpListener,
-    shared: &Shared,
-    over: &Stage,
-    said: Said<'_>,
-)
+pub(crate) fn keep_all<T>(program: &Program<'_, T>, doors: &mut [Door], listener: &TcpListener)
 where
-    T: Threads + Wait + Sync + Clock + Print + Eprint,
-    T: Net<Listener = TcpListener, Stream = TcpStream>,
+    T: Threads + Wait + Sync + Clock,
 {
     let count = doors.len();
     if count > 0 {
         let at = |_place: usize, door: &mut Door| {
             match door.origin {
-                Origin::Accepted => accept_all(rt, alloc, listener, shared, over, said),
-                Origin::Dialled(_) => dial_all(rt, alloc, *door, shared, over),
+                Origin::Accepted => accept_all(program, listener),
+                Origin::Dialled(_) => dial_all(program, *door),
             }
         };
-        thread::for_each_mut(rt, doors, count, &at);
+        thread::for_each_mut(program.rt, doors, count, &at);
     }
 }
 
-/// Dials a peer wherever no link to it is open: at once where the last one worked, and with growing
-/// pauses where it takes the call and does not say its number.
-fn dial_all<T>(rt: &T, alloc: Global, door: Door, shared: &Shared, over: &Stage)
-where
-    T: Wait + Clock + Net<Listener = TcpListener, Stream = TcpStream>,
-{
+/// Dials a peer whenever no link to it is open: at once if the last one worked, and with growing
+/// pauses if it takes the call and does not say its number. Runs in the peer's door's thread, and
+/// holds no lock while it dials.
+fn dial_all<T: Wait + Clock>(program: &Program<'_, T>, door: Door) {
     let mut dials = Dials {
         pause: 0,
         left: 0,
         has_called: false,
     };
+    let rt = program.rt;
     for _ in rt.forever() {
-        if over.phase(rt) != Phase::Serving {
+        if program.over.phase(rt) != Phase::Serving {
             return;
         }
-        if shared.pool.may_open(rt, door.origin) {
-            dial_in_turn(rt, alloc, door, shared, &mut dials);
+        if program.shared.pool.may_open(rt, door.origin) {
+            dial_in_turn(program, door, &mut dials);
         }
-        over.wait(rt, Phase::Serving, A_PAUSE);
+        program.over.wait(rt, Phase::Serving, REDIAL_WAIT_MS);
     }
     unreachable!()
 }
@@ -126,33 +118,33 @@ struct Dials {
 }
 
 /// Dials a peer to which no link is open, unless it is to be left alone for some seconds more.
-fn dial_in_turn<T>(rt: &T, alloc: Global, door: Door, shared: &Shared, dials: &mut Dials)
-where
-    T: Wait + Clock + Net<Listener = TcpListener, Stream = TcpStream>,
-{
+fn dial_in_turn<T: Wait>(program: &Program<'_, T>, door: Door, dials: &mut Dials) {
+    let pool = &program.shared.pool;
     if dials.has_called {
-        dials.pause = next_pause(dials.pause, shared.pool.has_spoken(rt, door.origin));
+        dials.pause = next_pause(dials.pause, pool.has_spoken(program.rt, door.origin));
         dials.left = dials.pause;
         dials.has_called = false;
     }
     if dials.left == 0 {
-        dials.has_called = dial(rt, alloc, door, &shared.pool);
+        dials.has_called = dial(program, door);
         if !dials.has_called {
-            note_no_dial(shared, door.origin);
+            note_no_dial(program.shared, door.origin);
         }
     }
     dials.left = dials.left.saturating_sub(1);
 }
 
 /// Dials a peer. Whether it took the call.
-fn dial<T>(rt: &T, alloc: Global, door: Door, pool: &Pool<TcpStream>) -> bool
-where
-    T: Wait + Clock + Net<Listener = TcpListener, Stream = TcpStream>,
-{
-    let found = TcpStream::connect_timeout(rt, &address(door.at), Duration::from_millis(A_DIAL));
+fn dial<T: Wait>(program: &Program<'_, T>, door: Door) -> bool {
+    let pool = &program.shared.pool;
+    let found = TcpStream::connect_timeout(
+        program.host,
+        &address(door.at),
+        Duration::from_millis(DIAL_TIMEOUT_MS),
+    );
     match found {
         Ok(stream) => {
-            open(rt, alloc, stream, door.origin, pool);
+            open(program.rt, program.alloc, stream, door.origin, pool);
             true
         }
         Err(_) => false,
@@ -166,25 +158,20 @@ fn note_no_dial(shared: &Shared, origin: Origin) {
     }
 }
 
-/// Accepts those who dial, as many as may be, and tells the troubles, unless the watcher does.
-fn accept_all<T: Wait + Clock + Print + Eprint>(
-    rt: &T,
-    alloc: Global,
-    listener: &TcpListener,
-    shared: &Shared,
-    over: &Stage,
-    said: Said<'_>,
-) {
+/// Accepts those who dial, as many as may be, and tells the troubles, unless the watcher does. Runs
+/// in the thread of the door for all who dial.
+fn accept_all<T: Wait + Clock>(program: &Program<'_, T>, listener: &TcpListener) {
+    let rt = program.rt;
     for _ in rt.forever() {
-        if over.phase(rt) != Phase::Serving {
+        if program.over.phase(rt) != Phase::Serving {
             return;
         }
-        if shared.board.get(Number::Watcher) == 0 {
-            tell_all(rt, alloc, &shared.pool, said);
+        if program.shared.board.get(Number::Watcher) == 0 {
+            tell_all(program);
         }
         match listener.accept() {
-            Ok((stream, _)) => accept(rt, alloc, stream, shared),
-            Err(_) => over.wait(rt, Phase::Serving, A_LOOK),
+            Ok((stream, _)) => accept(rt, program.alloc, stream, program.shared),
+            Err(_) => program.over.wait(rt, Phase::Serving, ACCEPT_WAIT_MS),
         }
     }
     unreachable!()
@@ -206,10 +193,10 @@ fn open<T: Wait>(rt: &T, alloc: Global, stream: TcpStream, origin: Origin, pool:
     let is_set = stream.set_nonblocking(false).is_ok()
         && stream.set_nodelay(true).is_ok()
         && stream
-            .set_read_timeout(Some(Duration::from_millis(A_READ)))
+            .set_read_timeout(Some(Duration::from_millis(READ_TIMEOUT_MS)))
             .is_ok()
         && stream
-            .set_write_timeout(Some(Duration::from_millis(A_WRITE)))
+            .set_write_timeout(Some(Duration::from_millis(WRITE_TIMEOUT_MS)))
             .is_ok();
     if is_set {
         pool.open(rt, Link::new(alloc, stream, origin));
@@ -218,17 +205,17 @@ fn open<T: Wait>(rt: &T, alloc: Global, stream: TcpStream, origin: Origin, pool:
 
 /// Tells the troubles that are to be told, each in a line of standard error: that nothing can be
 /// sent, and those of links.
-fn tell_all<T>(rt: &T, alloc: Global, pool: &Pool<TcpStream>, said: Said<'_>)
-where
-    T: Wait + Clock + Print + Eprint,
-{
+fn tell_all<T: Wait + Clock>(program: &Program<'_, T>) {
+    let rt = program.rt;
+    let pool = &program.shared.pool;
+    let err = program.said.err;
     if pool.outage.is_to_tell(rt) {
-        said.err.say(rt, outage_line(alloc));
+        err.say(rt, outage_line(program.alloc));
     }
     for _ in 0..MOST_LINES {
-        match pool.relay.report(rt, second(rt)) {
+        match pool.relay.report(rt, second(program.host)) {
             None => return,
-            Some(report) => said.err.say(rt, trouble_line(alloc, report)),
+            Some(report) => err.say(rt, trouble_line(program.alloc, report)),
         }
     }
 }

@@ -1,20 +1,19 @@
-//! What is remembered of the gateway from one second to the next, for what is reported of it.
+//! What is remembered of the gateway from one second to the next, for what is reported of it. Only
+//! the watcher's thread has it.
 
 use crate::board::{Field, Number, Shared};
 use crate::counting::{no_numbers, renew_numbers};
+use crate::program::Program;
 use gw_link::{LinkNumbers, Origin};
-use gw_main::options::Settings;
 use gw_report::{Glimpse, Health, Report, Sample, Seen};
 use gw_run::MOST_ACCEPTED;
 use gw_wire::{date, millisecond};
 use octets::Sequence;
 use rep_ops::ClientId;
 use std::alloc::Global;
-use std::fs::{File, Files};
 use std::mem;
 use std::sync::Wait;
 use std::sync::atomic::Ordering;
-use std::time::Clock;
 
 /// After how many milliseconds without a round the clock is late.
 const LATE: u64 = 5_000;
@@ -97,7 +96,7 @@ pub(crate) fn no_report(alloc: Global) -> Report {
 }
 
 /// Nothing was gathered.
-pub(crate) fn none_gathered<T: Clock>(rt: &T, alloc: Global) -> Gathered {
+pub(crate) fn none_gathered(rt: &HostRuntime, alloc: Global) -> Gathered {
     let now = millisecond(rt);
     let start = date(rt);
     Gathered {
@@ -123,26 +122,24 @@ pub(crate) fn none_gathered<T: Clock>(rt: &T, alloc: Global) -> Gathered {
     }
 }
 
-/// Gathers what is reported. What needs memory that is refused stays as it was.
-pub(crate) fn gather<T>(
-    rt: &T,
-    alloc: Global,
-    settings: &Settings,
-    shared: &Shared,
+/// Gathers what is reported. What needs memory that is refused stays as it was. Runs in the
+/// watcher's thread; it takes the relay's lock and those of the board, one at a time.
+pub(crate) fn gather<T: Wait>(
+    program: &Program<'_, T>,
     gathered: &mut Gathered,
     report: &mut Report,
-)
-where
-    T: Wait + Clock + Files<File = File>,
-{
-    let now = millisecond(rt);
+) {
+    let rt = program.rt;
+    let alloc = program.alloc;
+    let shared = program.shared;
+    let now = millisecond(program.host);
     look_at_clock(shared, gathered, now);
     forget_longest(shared, gathered, now);
     add_calls(rt, shared, gathered);
     find_links(rt, alloc, shared, gathered, now);
     find_clients(rt, alloc, shared, gathered, report);
     report.health = health_of(shared, gathered, now);
-    renew_numbers(rt, alloc, settings, shared, gathered, report, now);
+    renew_numbers(program, gathered, report, now);
 }
 
 /// Sees whether the clock's thread goes on. It begins a round several times a second.

@@ -3,15 +3,11 @@
 //! The lock of the shift is held for few clients at a time, and is let go between. Nothing of it is
 //! a call.
 
-use crate::board::{Board, Field, Shared};
+use crate::board::{Board, Field};
 use crate::gathering::MOST_LINKS;
-use gw_link::{LinkNumbers, Phase, Stage};
-use gw_main::options::Settings;
+use crate::program::{GatewayWork, Program};
+use gw_link::{LinkNumbers, Phase};
 use gw_report::Glimpse;
-use gw_shift::Shift;
-use jr_disk::Disk;
-use rep_model::Replica;
-use std::alloc::Global;
 use std::sync::Wait;
 use std::time::Clock;
 
@@ -22,63 +18,41 @@ const AT_ONCE: usize = 4;
 const MOST_LOOKS: usize = 1_024;
 
 /// How many milliseconds pass before it is looked again whether it is time for a glance.
-const A_LOOK: u64 = 200;
+const GLANCE_WAIT_MS: u64 = 200;
 
 /// Looks at the clients while the shift serves. If memory runs out, or the shift ends, the last
-/// glance stays.
-pub(crate) fn glance_all<T, R, D>(
-    rt: &T,
-    alloc: Global,
-    settings: &Settings,
-    shift: &Shift<R, D>,
-    shared: &Shared,
-    stage: &Stage,
-)
-where
-    T: Wait + Clock,
-    R: Replica,
-    D: Disk + Drop,
-{
+/// glance stays. Runs in a thread of its own; it takes the shift's lock for a few clients at a
+/// time.
+pub(crate) fn glance_all<T: Wait + Clock>(program: &Program<'_, T>, work: &GatewayWork<'_, T>) {
+    let rt = program.rt;
+    let board = &program.shared.board;
     for _ in rt.forever() {
-        if stage.phase(rt) != Phase::Serving {
+        if work.stage.phase(rt) != Phase::Serving {
             return;
         }
-        if shared.board.may_glance(rt) {
-            match look(rt, alloc, settings, shift, shared, stage) {
-                Some(field) => shared.board.put_field(rt, field),
+        if board.may_glance(program.host) {
+            match look(program, work) {
+                Some(field) => board.put_field(rt, field),
                 None => {}
             }
         }
-        stage.wait(rt, Phase::Serving, A_LOOK);
+        work.stage.wait(rt, Phase::Serving, GLANCE_WAIT_MS);
     }
     unreachable!()
 }
 
 /// All clients at a glance. `None` if memory runs out, or the shift ends.
-fn look<T, R, D>(
-    rt: &T,
-    alloc: Global,
-    settings: &Settings,
-    shift: &Shift<R, D>,
-    shared: &Shared,
-    stage: &Stage,
-) -> Option<Field>
-where
-    T: Wait,
-    R: Replica,
-    D: Disk + Drop,
-{
-    note_gateways(rt, alloc, settings, shared);
-    let second = shared.pool.clock.second();
+fn look<T: Wait>(program: &Program<'_, T>, work: &GatewayWork<'_, T>) -> Option<Field> {
+    note_gateways(program);
+    let clock = &program.shared.pool.clock;
+    let second = clock.second();
     let mut field = Field {
-        clients: Vec::new(alloc),
-        known: Vec::new(alloc),
+        clients: Vec::new(program.alloc),
+        known: Vec::new(program.alloc),
         second,
-        moment: shared.pool.clock.moment_of(second),
+        moment: clock.moment_of(second),
     };
-    if find_gateways(&shared.board, &mut field)
-        && look_at_all(rt, alloc, shift, &mut field, stage)
-    {
+    if find_gateways(&program.shared.board, &mut field) && look_at_all(work, &mut field) {
         return Some(field);
     }
     drop(field);
@@ -86,21 +60,10 @@ where
 }
 
 /// Looks at the clients, some at a time, while the shift serves. Whether all were seen.
-fn look_at_all<T, R, D>(
-    rt: &T,
-    alloc: Global,
-    shift: &Shift<R, D>,
-    field: &mut Field,
-    stage: &Stage,
-) -> bool
-where
-    T: Wait,
-    R: Replica,
-    D: Disk + Drop,
-{
+fn look_at_all<T: Wait>(work: &GatewayWork<'_, T>, field: &mut Field) -> bool {
     for _ in 0..MOST_LOOKS {
         let many = field.clients.len();
-        if stage.phase(rt) != Phase::Serving || !look_on(rt, alloc, shift, field) {
+        if work.stage.phase(work.rt) != Phase::Serving || !look_on(work, field) {
             return false;
         }
         if field.clients.len() == many {
@@ -111,17 +74,13 @@ where
 }
 
 /// Looks at some clients more, if there are any. Whether there was memory for them.
-fn look_on<T, R, D>(rt: &T, alloc: Global, shift: &Shift<R, D>, field: &mut Field) -> bool
-where
-    T: Wait,
-    R: Replica,
-    D: Disk + Drop,
-{
-    match shift.glance(rt, alloc, last_of(field.clients.as_slice()), AT_ONCE) {
+fn look_on<T: Wait>(work: &GatewayWork<'_, T>, field: &mut Field) -> bool {
+    let last = last_of(field.clients.as_slice());
+    match work.shift.glance(work.rt, work.alloc, last, AT_ONCE) {
         Err(_) => false,
         Ok(found) => {
             let known = field.known.as_mut_slice();
-            let is_counted = count_known(rt, alloc, shift, found.as_slice(), known);
+            let is_counted = count_known(work, found.as_slice(), known);
             let is_kept = keep_all(&mut field.clients, found);
             is_kept && is_counted
         }
@@ -154,21 +113,17 @@ fn keep(clients: &mut Vec<Glimpse>, glimpse: Glimpse) -> bool {
 
 /// Adds how many messages of each gateway are known for these clients. Whether there was memory for
 /// that.
-fn count_known<T, R, D>(
-    rt: &T,
-    alloc: Global,
-    shift: &Shift<R, D>,
+fn count_known<T: Wait>(
+    work: &GatewayWork<'_, T>,
     found: &[Glimpse],
     known: &mut [(u8, u64)],
-) -> bool
-where
-    T: Wait,
-    R: Replica,
-    D: Disk + Drop,
-{
+) -> bool {
     for entry in known {
         let (origin, before) = *entry;
-        match shift.messages_known(rt, alloc, found, origin) {
+        match work
+            .shift
+            .messages_known(work.rt, work.alloc, found, origin)
+        {
             Err(_) => return false,
             Ok(counts) => {
                 *entry = (origin, sum_after(before, counts.as_slice()));
@@ -190,13 +145,14 @@ fn sum_after(before: u64, counts: &[u64]) -> u64 {
 
 /// Notes the gateways that this one has heard of: itself, those of the settings, and those that are
 /// linked. If memory runs out, the last are noted at the next glance.
-fn note_gateways<T: Wait>(rt: &T, alloc: Global, settings: &Settings, shared: &Shared) {
-    let board = &shared.board;
-    board.note_gateway(settings.gateway);
-    for number in settings.numbers.as_slice() {
+fn note_gateways<T: Wait>(program: &Program<'_, T>) {
+    let board = &program.shared.board;
+    let relay = &program.shared.pool.relay;
+    board.note_gateway(program.settings.gateway);
+    for number in program.settings.numbers.as_slice() {
         board.note_gateway(*number);
     }
-    match shared.pool.relay.links(rt, alloc, MOST_LINKS) {
+    match relay.links(program.rt, program.alloc, MOST_LINKS) {
         Ok(links) => {
             note_linked(board, links.as_slice());
             drop(links);

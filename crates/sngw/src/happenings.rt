@@ -4,11 +4,11 @@
 //! Links, the clock and the threads that serve only count. What happened is seen here by comparing
 //! two gatherings, so an event is late by a second, or by a glance.
 
-use crate::board::{Board, Number, Shared};
+use crate::board::{Board, Number};
 use crate::counting::{MANY_TOPICS, is_owned, is_same, presence_of};
 use crate::doors::{outage_line, trouble_line};
 use crate::gathering::{Gathered, KnownLink, seen_in};
-use crate::lines::Said;
+use crate::program::Program;
 use gw_link::Trouble;
 use gw_main::options::Settings;
 use gw_page::entry;
@@ -20,7 +20,6 @@ use sn_flow::MAX_CLIENTS;
 use sn_plan::MAX_PENDING;
 use sn_session::Presence;
 use std::alloc::Global;
-use std::io::{Eprint, Print};
 use std::mem;
 use std::sync::Wait;
 use std::time::Clock;
@@ -32,7 +31,7 @@ const MOST_EVENTS: usize = 256;
 const MOST_TROUBLES: usize = 16;
 
 /// How many milliseconds pass before it is told again that datagrams were dropped.
-const A_MINUTE: u64 = 60_000;
+const DROPS_INTERVAL_MS: u64 = 60_000;
 
 /// How many milliseconds pass before it is told again who is at a limit.
 const AN_HOUR: u64 = 3_600_000;
@@ -53,7 +52,8 @@ pub struct Happened {
     not_compacted: u64,
     shift: u64,
     failures: u64,
-    /// For how many seconds in all the clock stood still, as it was told, and at the last gathering.
+    /// For how many seconds in all the clock stood still, as it was told, and at the last
+    /// gathering.
     stood: u64,
     standing: u64,
     /// How many datagrams were told as dropped, and when.
@@ -90,75 +90,59 @@ struct News {
     lost: u64,
 }
 
-/// Tells what happened since the last time.
-pub(crate) fn tell_all<T>(
-    rt: &T,
-    alloc: Global,
-    settings: &Settings,
-    shared: &Shared,
-    said: Said<'_>,
+/// Tells what happened since the last time. Runs in the watcher's thread, and holds no lock while
+/// it compares.
+pub(crate) fn tell_all<T: Wait + Clock>(
+    program: &Program<'_, T>,
     gathered: &mut Gathered,
     happened: &mut Happened,
     report: &mut Report,
-)
-where
-    T: Wait + Clock + Print + Eprint,
-{
-    let now = millisecond(rt);
+) {
+    let now = millisecond(program.host);
     let moment = now.saturating_sub(gathered.began) / 1_000;
     let mut news = News {
-        alloc,
-        told: Vec::new(alloc),
+        alloc: program.alloc,
+        told: Vec::new(program.alloc),
         lost: 0,
     };
     find_links(&mut news, gathered.links.as_mut_slice());
-    find_troubles(rt, &mut news, shared, settings.log == 0, said);
-    find_all(&mut news, settings, shared, gathered, happened, report, now);
-    let lost = tell(rt, settings.log, said, moment, news, report);
+    find_troubles(program, &mut news);
+    find_all(program, &mut news, gathered, happened, report, now);
+    let lost = tell(program, moment, news, report);
     gathered.lost = gathered.lost.saturating_add(lost);
 }
 
 /// What is to be told of the gateway and of clients.
-fn find_all(
+fn find_all<T>(
+    program: &Program<'_, T>,
     news: &mut News,
-    settings: &Settings,
-    shared: &Shared,
     gathered: &mut Gathered,
     happened: &mut Happened,
     report: &Report,
     now: u64,
 ) {
-    find_gateway(news, &shared.board, gathered.stood, happened);
-    find_dropped(news, &shared.board, happened, now);
+    let board = &program.shared.board;
+    find_gateway(news, board, gathered.stood, happened);
+    find_dropped(news, board, happened, now);
     if gathered.is_new {
         let clients = report.clients.as_slice();
-        find_clients(news, settings, gathered, happened, clients, now);
+        find_clients(news, program.settings, gathered, happened, clients, now);
     }
 }
 
 /// Says what is bad enough, and puts all of it to the events of the page. How many could not be
 /// told.
-fn tell<T: Wait + Print + Eprint>(
-    rt: &T,
-    level: u8,
-    said: Said<'_>,
-    moment: u64,
-    news: News,
-    report: &mut Report,
-) -> u64 {
+fn tell<T: Wait>(program: &Program<'_, T>, moment: u64, news: News, report: &mut Report) -> u64 {
     let News { alloc, told, lost } = news;
     let mut events = mem::replace(&mut report.events, Sequence::empty(alloc)).into_vec();
-    let untold = tell_each(rt, alloc, level, said, moment, told, &mut events);
+    let untold = tell_each(program, moment, told, &mut events);
     drop(mem::replace(&mut report.events, Sequence::new(events)));
     lost.saturating_add(untold)
 }
 
 /// Says each of these, and puts it to the events of the page. How many could not be told.
-fn tell_each<T: Wait + Print + Eprint>(
-    rt: &T,
-    alloc: Global,
-    level: u8,
-    said: Said<'_>,
+fn tell_each<T: Wait>(
+    program: &Program<'_, T>,
     moment: u64,
     told: Vec<What>,
     events: &mut Vec<Event>,
@@ -166,7 +150,7 @@ fn tell_each<T: Wait + Print + Eprint>(
     let mut lost = 0u64;
     for what in told {
         let event = Event { moment, what };
-        let is_said = say(rt, alloc, level, said, &event);
+        let is_said = say(program, &event);
         let is_kept = keep(events, event);
         count_unless(&mut lost, is_said && is_kept);
     }
@@ -180,19 +164,14 @@ fn count_unless(count: &mut u64, holds: bool) {
     }
 }
 
-/// Says an event on standard error, if it is of this level or worse. Whether its line was not left
-/// out.
-fn say<T: Wait + Print + Eprint>(
-    rt: &T,
-    alloc: Global,
-    level: u8,
-    said: Said<'_>,
-    event: &Event,
-) -> bool {
-    if event.level().number() > level {
+/// Says an event on standard error, if it is of the level of the settings or worse. Whether its
+/// line was not left out.
+fn say<T: Wait>(program: &Program<'_, T>, event: &Event) -> bool {
+    if event.level().number() > program.settings.log {
         return true;
     }
-    said.err.try_say(rt, entry(alloc, event).ok())
+    let line = entry(program.alloc, event).ok();
+    program.said.err.try_say(program.rt, line)
 }
 
 /// Keeps an event for the page. If there are too many, the oldest of a single client gives way, or
@@ -242,26 +221,24 @@ fn find_links(news: &mut News, links: &mut [KnownLink]) {
     }
 }
 
-/// The troubles of links, and that nothing can be sent. If they are to be printed, each has a line.
-fn find_troubles<T: Wait + Clock + Print + Eprint>(
-    rt: &T,
-    news: &mut News,
-    shared: &Shared,
-    is_printed: bool,
-    said: Said<'_>,
-) {
-    if shared.pool.outage.is_to_tell(rt) {
+/// The troubles of links, and that nothing can be sent. If the settings ask for no events, each has
+/// a line.
+fn find_troubles<T: Wait + Clock>(program: &Program<'_, T>, news: &mut News) {
+    let rt = program.rt;
+    let pool = &program.shared.pool;
+    let is_printed = program.settings.log == 0;
+    if pool.outage.is_to_tell(rt) {
         if is_printed {
-            said.err.say(rt, outage_line(news.alloc));
+            program.said.err.say(rt, outage_line(news.alloc));
         }
         warn(news, Warning::NothingSent);
     }
     for _ in 0..MOST_TROUBLES {
-        let Some(told) = shared.pool.relay.report(rt, second(rt)) else {
+        let Some(told) = pool.relay.report(rt, second(program.host)) else {
             return;
         };
         if is_printed {
-            said.err.say(rt, trouble_line(news.alloc, told));
+            program.said.err.say(rt, trouble_line(news.alloc, told));
         }
         note(news, event_of(told.trouble, told.number, told.count));
     }
@@ -336,7 +313,7 @@ fn find_turn(news: &mut News, board: &Board, happened: &mut Happened) {
 /// How many datagrams were dropped, once in a minute.
 fn find_dropped(news: &mut News, board: &Board, happened: &mut Happened, now: u64) {
     let dropped = board.get(Number::Dropped);
-    let is_time = happened.told == 0 || now.saturating_sub(happened.told) > A_MINUTE;
+    let is_time = happened.told == 0 || now.saturating_sub(happened.told) > DROPS_INTERVAL_MS;
     if dropped > happened.dropped && is_time {
         let times = growth(&mut happened.dropped, dropped);
         happened.told = now;

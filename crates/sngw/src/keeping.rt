@@ -1,11 +1,11 @@
 //! The journal between shifts: when it is written anew, and when a gateway that cannot write tries
 //! again.
 
-use gw_main::{Tended, base_of, is_grown, next_wait};
+use gw_main::{Tended, changed_length, is_grown, next_wait};
 use std::alloc::Global;
-use std::fs::{File, Files, metadata};
+use std::fs::metadata;
 
-/// What is known of a journal between shifts.
+/// What is known of a journal between shifts. Only the thread of shifts has it.
 #[derive(Drop)]
 pub struct Keeper<'a> {
     /// The path of the journal.
@@ -30,18 +30,14 @@ impl<'a> Keeper<'a> {
     }
 
     /// The lengths of both files, in octets. Nothing if the system does not tell them.
-    pub(crate) fn lengths<R: Files<File = File>>(
-        &self,
-        rt: &R,
-        alloc: Global,
-    ) -> Option<(u64, u64)> {
+    pub(crate) fn lengths(&self, rt: &HostRuntime, alloc: Global) -> Option<(u64, u64)> {
         let first = length_of(rt, alloc, self.path, 0)?;
         let second = length_of(rt, alloc, self.path, 1)?;
         Some((first, second))
     }
 
     /// Whether it has grown enough to be written anew. If the system does not tell, it has.
-    pub(crate) fn is_grown<R: Files<File = File>>(&self, rt: &R, alloc: Global) -> bool {
+    pub(crate) fn is_grown(&self, rt: &HostRuntime, alloc: Global) -> bool {
         match self.lengths(rt, alloc) {
             None => true,
             Some((first, second)) => {
@@ -53,9 +49,9 @@ impl<'a> Keeper<'a> {
 
     /// The gateway was tended, before which the files had these lengths. A journal that could not
     /// be written anew counts as if it had been: it has to grow as much again before the next try.
-    pub(crate) fn note_tended<R: Files<File = File>>(
+    pub(crate) fn note_tended(
         &mut self,
-        rt: &R,
+        rt: &HostRuntime,
         alloc: Global,
         before: Option<(u64, u64)>,
         tended: Tended,
@@ -65,7 +61,7 @@ impl<'a> Keeper<'a> {
         };
         self.both = after.0.saturating_add(after.1);
         self.base = match before {
-            Some(before) if is_written(tended) => base_of(before, after),
+            Some(before) if is_written(tended) => changed_length(before, after),
             _ => after.0.max(after.1),
         };
     }
@@ -101,12 +97,7 @@ pub(crate) fn is_written(tended: Tended) -> bool {
 }
 
 /// The length of a file of a journal, in octets.
-pub(crate) fn length_of<R: Files<File = File>>(
-    rt: &R,
-    alloc: Global,
-    path: &str,
-    slot: u8,
-) -> Option<u64> {
+pub(crate) fn length_of(rt: &HostRuntime, alloc: Global, path: &str, slot: u8) -> Option<u64> {
     match name_of(alloc, path, slot) {
         None => None,
         Some(name) => {
@@ -124,7 +115,7 @@ fn name_of(alloc: Global, path: &str, slot: u8) -> Option<String> {
 }
 
 /// The length of a file, in octets.
-fn length_at<R: Files<File = File>>(rt: &R, name: &str) -> Option<u64> {
+fn length_at(rt: &HostRuntime, name: &str) -> Option<u64> {
     match metadata(rt, name) {
         Ok(found) => Some(found.len()),
         Err(_) => None,

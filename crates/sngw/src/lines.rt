@@ -4,7 +4,6 @@
 use crate::stop::Stop;
 use std::alloc::Global;
 use std::collections::VecDeque;
-use std::io::{Eprint, Print};
 use std::sync::{Condvar, Mutex, Wait};
 use std::time::{Clock, Duration};
 
@@ -48,9 +47,11 @@ struct Waiting {
     is_done: bool,
 }
 
-/// The lines of an output that wait to be printed.
+/// The lines of an output that wait to be printed. Any thread puts them there, under their lock,
+/// and one prints them, without it.
 #[derive(Drop)]
 pub(crate) struct Lines {
+    host: HostRuntime,
     output: Output,
     waiting: Mutex<Waiting>,
     changed: Condvar,
@@ -67,9 +68,10 @@ pub(crate) struct Said<'a> {
 
 impl Lines {
     /// No line waits. `None` if memory runs out: there is room for all that may wait.
-    pub(crate) fn of(alloc: Global, output: Output) -> Option<Lines> {
+    pub(crate) fn of(host: HostRuntime, alloc: Global, output: Output) -> Option<Lines> {
         let lines = VecDeque::with_capacity(alloc, MOST_WAITING + 1).ok()?;
         Some(Lines {
+            host,
             output,
             waiting: Mutex::new(Waiting {
                 lines,
@@ -90,28 +92,28 @@ impl Lines {
 
     /// A line is to be printed. It is left out, and counted, if too many wait, or there was no
     /// memory for it.
-    pub(crate) fn say<T: Wait + Print + Eprint>(&self, rt: &T, text: Option<String>) {
+    pub(crate) fn say<T: Wait>(&self, rt: &T, text: Option<String>) {
         let _ = self.put(rt, text.map(Line::Text), MOST_WAITING);
     }
 
-    /// The same. Whether the line was not left out.
-    pub(crate) fn try_say<T: Wait + Print + Eprint>(&self, rt: &T, text: Option<String>) -> bool {
+    /// Has a line printed, unless too many wait. Whether it was not left out.
+    pub(crate) fn try_say<T: Wait>(&self, rt: &T, text: Option<String>) -> bool {
         self.put(rt, text.map(Line::Text), MOST_WAITING)
     }
 
     /// Why the program ends is to be printed.
-    pub(crate) fn say_end<T: Wait + Print + Eprint>(&self, rt: &T, stop: Stop) {
+    pub(crate) fn say_end<T: Wait>(&self, rt: &T, stop: Stop) {
         let _ = self.put(rt, Some(Line::End(stop)), MOST_WAITING + 1);
     }
 
     /// A line is to be printed, if fewer than so many wait. Whether it was not left out.
-    fn put<T: Wait + Print + Eprint>(&self, rt: &T, line: Option<Line>, most: usize) -> bool {
+    fn put<T: Wait>(&self, rt: &T, line: Option<Line>, most: usize) -> bool {
         if !self.is_alone(rt) {
             return self.wait_with(rt, line, most);
         }
         match line {
             Some(line) => {
-                self.print(rt, line);
+                self.print(line);
                 true
             }
             None => false,
@@ -135,23 +137,24 @@ impl Lines {
     }
 
     /// Prints a line.
-    fn print<T: Print + Eprint>(&self, rt: &T, line: Line) {
+    fn print(&self, line: Line) {
         match self.output {
-            Output::Standard => print_out(rt, &line),
-            Output::Errors => print_err(rt, &line),
+            Output::Standard => print_out(&self.host, &line),
+            Output::Errors => print_err(&self.host, &line),
         }
         drop(line);
     }
 
-    /// Prints each line, until no more come.
-    pub(crate) fn print_all<T: Wait + Print + Eprint>(&self, rt: &T) {
+    /// Prints each line, until no more come. Runs in a thread of its own; the lock is held to take
+    /// a line, and not to print it.
+    pub(crate) fn print_all<T: Wait>(&self, rt: &T) {
         for _ in rt.forever() {
             let Some(line) = self.next(rt) else {
                 self.waiting.lock(rt).is_done = true;
                 self.changed.notify_all();
                 return;
             };
-            self.print(rt, line);
+            self.print(line);
         }
         unreachable!()
     }
@@ -190,7 +193,7 @@ impl Lines {
 }
 
 /// Prints a line to standard output.
-fn print_out<T: Print>(rt: &T, line: &Line) {
+fn print_out(rt: &HostRuntime, line: &Line) {
     let _ = match line {
         Line::Text(text) => println!(rt; "{text}"),
         Line::End(stop) => println!(rt; "sngw: {stop}"),
@@ -199,7 +202,7 @@ fn print_out<T: Print>(rt: &T, line: &Line) {
 }
 
 /// Prints a line to standard error.
-fn print_err<T: Eprint>(rt: &T, line: &Line) {
+fn print_err(rt: &HostRuntime, line: &Line) {
     let _ = match line {
         Line::Text(text) => eprintln!(rt; "{text}"),
         Line::End(stop) => eprintln!(rt; "sngw: {stop}"),

@@ -14,6 +14,7 @@
 //! - `reading`: the settings file.
 //! - `ignored`: keys of it that mean nothing where they stand.
 //! - `stop`: why the program ends early (`Stop`).
+//! - `program`: what the threads of the program have from its begin to its end.
 //! - `running`: shifts one after the other.
 //! - `lines`: lines that are printed beside the work.
 //! - `dates`: the date of the machine, by which moments go.
@@ -21,7 +22,7 @@
 //! - `doors`: how links are made: peers are dialled, others are accepted.
 //! - `working`: the threads of one shift.
 //! - `watched`: the wire, which ends with the shift.
-//! - `late`: a datagram that came when its shift had no call left for it.
+//! - `held_over`: a datagram that came when its shift had no call left for it.
 //! - `posting`: how replies go out.
 //! - `admission`: which datagrams become calls, and which clients are let in.
 //! - `board`: what is counted for whoever watches the gateway.
@@ -39,11 +40,12 @@ mod doors;
 mod gathering;
 mod glancing;
 mod happenings;
+mod held_over;
 mod ignored;
 mod keeping;
-mod late;
 mod lines;
 mod posting;
+mod program;
 mod reading;
 mod running;
 mod stop;
@@ -54,6 +56,7 @@ mod working;
 
 use crate::dates::hold_lifetime;
 use crate::lines::{Lines, Output, Said};
+use crate::program::{Gateway, Task};
 use crate::reading::settings_at;
 use crate::running::run;
 use crate::stop::Stop;
@@ -61,15 +64,11 @@ use crate::words::{Asked, VERSION, asked_by, asks_version};
 use file_disk::{FileDisk, FileDiskFault};
 use gw_main::begin;
 use gw_main::options::Settings;
-use gw_node::Node;
 use gw_wire::date;
 use jr_disk::{Disk, Slot};
 use rep_state::Folded;
 use std::alloc::Global;
-use std::env::Env;
-use std::fs::{File, Files};
-use std::io::{Eprint, Print, Write};
-use std::net::{Net, TcpListener, TcpStream};
+use std::io::Write;
 use std::process::ExitCode;
 use std::sync::{Arc, Wait};
 use std::thread::Threads;
@@ -79,7 +78,7 @@ use std::{env, io, thread};
 fn main(rt: HostRuntime) -> ExitCode {
     let errors = rt.stderr();
     let mut err = io::writer(&errors);
-    let Some((out, lines)) = outputs(rt.alloc()) else {
+    let Some((out, lines)) = outputs(rt, rt.alloc()) else {
         return no_memory(&mut err);
     };
     for printed in [&out, &lines] {
@@ -95,7 +94,7 @@ fn main(rt: HostRuntime) -> ExitCode {
         out: &*out,
         err: &*lines,
     };
-    let started = start(&rt, rt.alloc(), said, &mut io::writer(&rt), &mut err);
+    let started = start(&rt, &rt, rt.alloc(), said, &mut io::writer(&rt), &mut err);
     end(&rt, said, started)
 }
 
@@ -106,17 +105,14 @@ fn no_memory<E: Write>(err: &mut E) -> ExitCode {
 }
 
 /// The lines of both outputs. `None` if memory runs out.
-fn outputs(alloc: Global) -> Option<(Arc<Lines>, Arc<Lines>)> {
-    let out = Arc::new(alloc, Lines::of(alloc, Output::Standard)?).ok()?;
-    let err = Arc::new(alloc, Lines::of(alloc, Output::Errors)?).ok()?;
+fn outputs(host: HostRuntime, alloc: Global) -> Option<(Arc<Lines>, Arc<Lines>)> {
+    let out = Arc::new(alloc, Lines::of(host, alloc, Output::Standard)?).ok()?;
+    let err = Arc::new(alloc, Lines::of(host, alloc, Output::Errors)?).ok()?;
     Some((out, err))
 }
 
 /// The program's status. What was said is printed before, if anybody reads it.
-fn end<T>(rt: &T, said: Said<'_>, started: Result<(), Stop>) -> ExitCode
-where
-    T: Wait + Clock + Print + Eprint,
-{
+fn end<T: Wait + Clock>(rt: &T, said: Said<'_>, started: Result<(), Stop>) -> ExitCode {
     let status = match started {
         Ok(()) => ExitCode::SUCCESS,
         Err(stop) => {
@@ -134,18 +130,17 @@ where
 /// Everything that the program does.
 fn start<T, O: Write, E: Write>(
     rt: &T,
+    host: &HostRuntime,
     alloc: Global,
     said: Said<'_>,
     out: &mut O,
     err: &mut E,
 ) -> Result<(), Stop>
 where
-    T: Env + Files<File = File> + Print + Eprint + Threads + Wait + Sync + Clock,
-    T: Net<Listener = TcpListener, Stream = TcpStream>,
-    T::Dir: Send,
+    T: Threads + Wait + Sync + Clock,
 {
-    match words_of(rt, alloc) {
-        Some(words) => start_with(rt, alloc, words, said, out, err),
+    match words_of(host, alloc) {
+        Some(words) => start_with(rt, host, alloc, words, said, out, err),
         None => Err(Stop::Arguments),
     }
 }
@@ -153,6 +148,7 @@ where
 /// Everything that these words ask for.
 fn start_with<T, O: Write, E: Write>(
     rt: &T,
+    host: &HostRuntime,
     alloc: Global,
     words: Vec<String>,
     said: Said<'_>,
@@ -160,9 +156,7 @@ fn start_with<T, O: Write, E: Write>(
     err: &mut E,
 ) -> Result<(), Stop>
 where
-    T: Files<File = File> + Print + Eprint + Threads + Wait + Sync + Clock,
-    T: Net<Listener = TcpListener, Stream = TcpStream>,
-    T::Dir: Send,
+    T: Threads + Wait + Sync + Clock,
 {
     if asks_version(words.as_slice()) {
         drop(words);
@@ -172,7 +166,7 @@ where
     let asked = asked_by(alloc, words.as_slice());
     drop(words);
     match asked {
-        Some(asked) => start_as(rt, alloc, asked, said, out, err),
+        Some(asked) => start_as(rt, host, alloc, asked, said, out, err),
         None => Err(Stop::Arguments),
     }
 }
@@ -180,6 +174,7 @@ where
 /// Reads the settings, opens a gateway by them, and works as many shifts as were asked for.
 fn start_as<T, O: Write, E: Write>(
     rt: &T,
+    host: &HostRuntime,
     alloc: Global,
     asked: Asked,
     said: Said<'_>,
@@ -187,16 +182,14 @@ fn start_as<T, O: Write, E: Write>(
     err: &mut E,
 ) -> Result<(), Stop>
 where
-    T: Files<File = File> + Print + Eprint + Threads + Wait + Sync + Clock,
-    T: Net<Listener = TcpListener, Stream = TcpStream>,
-    T::Dir: Send,
+    T: Threads + Wait + Sync + Clock,
 {
-    let settings = settings_at(rt, alloc, asked.config.as_str(), err);
+    let settings = settings_at(host, alloc, asked.config.as_str(), err);
     let shifts = asked.shifts;
     drop(asked);
     match settings {
         Ok(mut settings) => {
-            let done = start_by(rt, alloc, &mut settings, shifts, said, out, err);
+            let done = start_by(rt, host, alloc, &mut settings, shifts, said, out, err);
             drop(settings);
             done
         }
@@ -208,6 +201,7 @@ where
 /// opened without a lifetime.
 fn start_by<T, O: Write, E: Write>(
     rt: &T,
+    host: &HostRuntime,
     alloc: Global,
     settings: &mut Settings,
     shifts: u64,
@@ -216,15 +210,24 @@ fn start_by<T, O: Write, E: Write>(
     err: &mut E,
 ) -> Result<(), Stop>
 where
-    T: Files<File = File> + Print + Eprint + Threads + Wait + Sync + Clock,
-    T: Net<Listener = TcpListener, Stream = TcpStream>,
-    T::Dir: Send,
+    T: Threads + Wait + Sync + Clock,
 {
-    match disk_at(rt, alloc, settings, err) {
+    match disk_at(host, alloc, settings, err) {
         Ok(disk) => {
-            let today = date(rt);
+            let today = date(host);
             match opened_on(alloc, settings, disk, today, out, err) {
-                Some(node) => work(rt, alloc, settings, node, shifts, today, said),
+                Some(node) => {
+                    let task = Task {
+                        rt,
+                        host,
+                        alloc,
+                        settings: &*settings,
+                        shifts,
+                        today,
+                        said,
+                    };
+                    work(&task, node)
+                }
                 None => Err(Stop::Opening),
             }
         }
@@ -241,7 +244,7 @@ fn opened_on<O: Write, E: Write>(
     today: u64,
     out: &mut O,
     err: &mut E,
-) -> Option<Node<Folded, FileDisk>> {
+) -> Option<Gateway> {
     let lifetime = hold_lifetime(settings, today, err);
     let node = opened(alloc, settings, disk, out, err);
     settings.lifetime = lifetime;
@@ -255,34 +258,24 @@ fn opened<O: Write, E: Write>(
     disk: FileDisk,
     out: &mut O,
     err: &mut E,
-) -> Option<Node<Folded, FileDisk>> {
+) -> Option<Gateway> {
     begin::<Folded, FileDisk, O, E>(alloc, settings, disk, out, err).ok()
 }
 
-/// Works so many shifts of a gateway, which was opened at this date.
-fn work<T>(
-    rt: &T,
-    alloc: Global,
-    settings: &Settings,
-    node: Node<Folded, FileDisk>,
-    shifts: u64,
-    today: u64,
-    said: Said<'_>,
-) -> Result<(), Stop>
+/// Works the shifts of a task with a gateway.
+fn work<T>(task: &Task<'_, T>, node: Gateway) -> Result<(), Stop>
 where
-    T: Files<File = File> + Print + Eprint + Threads + Wait + Sync + Clock,
-    T: Net<Listener = TcpListener, Stream = TcpStream>,
-    T::Dir: Send,
+    T: Threads + Wait + Sync + Clock,
 {
-    if shifts == 0 {
+    if task.shifts == 0 {
         drop(node);
         return Ok(());
     }
-    run(rt, alloc, settings, node, shifts, today, said)
+    run(task, node)
 }
 
 /// The words of the command line. `None` if memory ran out.
-fn words_of<T: Env>(rt: &T, alloc: Global) -> Option<Vec<String>> {
+fn words_of(rt: &HostRuntime, alloc: Global) -> Option<Vec<String>> {
     match env::args(&(rt, alloc)) {
         Ok(words) => words.collect(alloc).ok(),
         Err(_) => None,
@@ -297,8 +290,8 @@ fn is_empty(disk: &mut FileDisk) -> bool {
 
 /// The two files of the journal. That none was there is told: where the path is wrong, or nothing
 /// is mounted there, a gateway would give names again that it has given.
-fn disk_at<T: Files<File = File>, E: Write>(
-    rt: &T,
+fn disk_at<E: Write>(
+    rt: &HostRuntime,
     alloc: Global,
     settings: &Settings,
     err: &mut E,

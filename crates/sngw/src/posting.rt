@@ -14,12 +14,12 @@ use std::sync::{Mutex, Wait};
 /// How many groups of addresses are counted apart.
 const GROUPS: usize = 4_096;
 
-/// How many octets the history keeps of a datagram beside its own: of the answer that has it, and of
-/// what the gateway made for it.
-const A_SEND: usize = 256;
+/// How many octets the history keeps of a datagram beside its own: of the answer that has it, and
+/// of what the gateway made for it.
+const ANSWER_OCTETS: usize = 256;
 
 /// How many seconds are counted together.
-const A_WHILE: u64 = 8;
+const COUNTED_SECONDS: u64 = 8;
 
 /// How often DISCONNECT is said to one group in that time, at most.
 const MOST_SAID: u8 = 32;
@@ -53,7 +53,7 @@ impl Fence {
     /// Whether DISCONNECT may be said to an address in this second. If so, it counts as said.
     fn may_say<T: Wait>(&self, rt: &T, second: u64, to: Addr) -> bool {
         let mut said = self.said.lock(rt);
-        count_in(&mut said, second / A_WHILE, group_of(to))
+        count_in(&mut said, second / COUNTED_SECONDS, group_of(to))
     }
 }
 
@@ -100,8 +100,8 @@ fn is_disconnect(bytes: &[u8]) -> bool
 }
 
 /// The kind of a message: its second octet, or its fourth after a length of three (5.2.1).
-fn kind_of(bytes: &[u8]) -> u8
-    ensures { result ≡ spec.kind_of bytes.now }
+fn octet_of_kind(bytes: &[u8]) -> u8
+    ensures { result ≡ spec.octet_of_kind bytes.now }
 {
     if bytes.len() > 3 && bytes[0] == 1 {
         bytes[3]
@@ -117,11 +117,12 @@ fn kind_of(bytes: &[u8]) -> u8
 fn is_try(bytes: &[u8]) -> bool
     ensures { result ≡ spec.is_try bytes.now }
 {
-    let kind = kind_of(bytes);
+    let kind = octet_of_kind(bytes);
     kind == 0x0A || kind == 0x0C || kind == 0x10
 }
 
-/// The post of a shift.
+/// The post of a shift. Workers and the clock's thread share it. They send without a lock: that of
+/// the fence is held to count a DISCONNECT.
 #[derive(Drop)]
 pub struct Outlet<'a, T: Wait, P: Post> {
     rt: &'a T,
@@ -175,7 +176,8 @@ impl<'a, T: Wait, P: Post> Post for Outlet<'a, T, P> {
             self.shared.board.note_sent(bytes, false);
             return Err(Unsent);
         }
-        self.stage.keep(self.rt, bytes.len().saturating_add(A_SEND));
+        self.stage
+            .keep(self.rt, bytes.len().saturating_add(ANSWER_OCTETS));
         let sent = self.post.send(to, bytes);
         self.note(to, bytes, sent.is_ok());
         sent

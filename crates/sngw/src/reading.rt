@@ -5,7 +5,7 @@ use crate::stop::Stop;
 use gw_main::options::Settings;
 use gw_main::{SettingsFault, settings};
 use std::alloc::Global;
-use std::fs::{File, Files};
+use std::fs::File;
 use std::io;
 use std::io::{ErrorKind, Read, Write};
 
@@ -14,8 +14,8 @@ const LARGEST: u64 = 1_048_576;
 
 /// The settings of a file. Where they cannot be read, or are no TOML document, a line says where;
 /// where a key is ignored, a line says which.
-pub(crate) fn settings_at<R: Files<File = File>, E: Write>(
-    rt: &R,
+pub(crate) fn settings_at<E: Write>(
+    rt: &HostRuntime,
     alloc: Global,
     path: &str,
     err: &mut E,
@@ -72,8 +72,8 @@ fn place<E: Write>(alloc: Global, path: &str, text: &str, err: &mut E) {
 }
 
 /// The text of a file.
-fn text_at<R: Files<File = File>, E: Write>(
-    rt: &R,
+fn text_at<E: Write>(
+    rt: &HostRuntime,
     alloc: Global,
     path: &str,
     err: &mut E,
@@ -89,8 +89,8 @@ fn text_at<R: Files<File = File>, E: Write>(
 }
 
 /// Reads a file. If it cannot be read, or is too large, a line says so.
-fn read_whole<R: Files<File = File>, E: Write>(
-    rt: &R,
+fn read_whole<E: Write>(
+    rt: &HostRuntime,
     path: &str,
     octets: &mut Vec<u8>,
     err: &mut E,
@@ -139,7 +139,7 @@ fn unread(kind: ErrorKind) -> Stop {
 }
 
 /// Reads a file, one octet more than it may have at most.
-fn read_into<R: Files<File = File>>(rt: &R, path: &str, octets: &mut Vec<u8>) -> io::Result<()> {
+fn read_into(rt: &HostRuntime, path: &str, octets: &mut Vec<u8>) -> io::Result<()> {
     let file = File::open(rt, path)?;
     file.take(LARGEST + 1).read_to_end(octets)?;
     Ok(())

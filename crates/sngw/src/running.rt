@@ -1,55 +1,42 @@
 //! Shifts one after the other.
+//!
+//! All of it runs in the program's first thread, that of shifts, but for what `keep_and_show`
+//! begins: the threads of the doors and of the watcher. No lock is held over a shift, or while the
+//! gateway is tended.
 
 use crate::admission::Admission;
 use crate::board::{Board, Number, Shared};
 use crate::dates::{begin_dates, by_date};
 use crate::doors::{Door, doors_of, keep_all};
+use crate::held_over::{Inlet, Late};
 use crate::keeping::{Keeper, is_written};
-use crate::late::{Inlet, Late};
-use crate::lines::Said;
 use crate::posting::Fence;
+use crate::program::{Gateway, Program, Task};
 use crate::stop::Stop;
 use crate::watcher::show_all;
 use crate::working::{Worked, work};
 use gw_link::{Phase, Stage};
 use gw_main::options::Settings;
-use gw_main::{Tended, number_of, tend};
-use gw_node::Node;
+use gw_main::{Tended, begin_fault_number, tend};
 use gw_run::Pool;
 use gw_wire::{Socket, address, millisecond};
-use jr_disk::Disk;
-use rep_model::Replica;
 use sn_local::Addr;
 use std::alloc::Global;
-use std::fs::{File, Files};
-use std::io::{Eprint, ErrorKind, Print};
-use std::net::{Net, TcpListener, TcpStream};
+use std::io::ErrorKind;
+use std::net::{TcpListener, TcpStream};
 use std::sync::{Mutex, Wait};
 use std::thread::Threads;
 use std::time::{Clock, Duration};
 use std::{mem, thread};
 
-/// Works so many shifts with a gateway that was opened at this date. The sockets are open from
-/// before the first to after the last.
-pub(crate) fn run<T, R, D>(
-    rt: &T,
-    alloc: Global,
-    settings: &Settings,
-    node: Node<R, D>,
-    shifts: u64,
-    opened_at: u64,
-    said: Said<'_>,
-) -> Result<(), Stop>
+/// Works the shifts of a task with a gateway. The sockets are open from before the first to after
+/// the last.
+pub(crate) fn run<T>(task: &Task<'_, T>, node: Gateway) -> Result<(), Stop>
 where
-    T: Threads + Wait + Sync + Clock + Print + Eprint + Files<File = File>,
-    T: Net<Listener = TcpListener, Stream = TcpStream>,
-    T::Dir: Send,
-    R: Replica + Send,
-    R::Staged: Send,
-    D: Disk + Drop + Send,
+    T: Threads + Wait + Sync + Clock,
 {
-    match open_all(rt, alloc, settings) {
-        Ok(opened) => run_opened(rt, alloc, settings, node, shifts, opened_at, opened, said),
+    match open_all(task.host, task.alloc, task.settings) {
+        Ok(opened) => run_opened(task, node, opened),
         Err(stop) => {
             drop(node);
             Err(stop)
@@ -57,41 +44,32 @@ where
     }
 }
 
-/// Works so many shifts with a gateway, by what it is reached by.
-fn run_opened<T, R, D>(
-    rt: &T,
-    alloc: Global,
-    settings: &Settings,
-    node: Node<R, D>,
-    shifts: u64,
-    opened_at: u64,
-    mut opened: Opened,
-    said: Said<'_>,
-) -> Result<(), Stop>
+/// Works the shifts of a task with a gateway, by what it is reached by.
+fn run_opened<T>(task: &Task<'_, T>, node: Gateway, mut opened: Opened) -> Result<(), Stop>
 where
-    T: Threads + Wait + Sync + Clock + Print + Eprint + Files<File = File>,
-    T: Net<Listener = TcpListener, Stream = TcpStream>,
-    T::Dir: Send,
-    R: Replica + Send,
-    R::Staged: Send,
-    D: Disk + Drop + Send,
+    T: Threads + Wait + Sync + Clock,
 {
-    begin_dates(rt, &opened.shared.pool.clock, opened_at);
+    begin_dates(task.host, &opened.shared.pool.clock, task.today);
     let place = Mutex::new(Some(node));
     let over = Stage::new(0, 0);
+    let program = Program {
+        rt: task.rt,
+        host: task.host,
+        alloc: task.alloc,
+        settings: task.settings,
+        shared: &opened.shared,
+        over: &over,
+        said: task.said,
+    };
     let worked = run_beside(
-        rt,
-        alloc,
-        settings,
+        &program,
         &place,
         &mut opened.inlet,
-        shifts,
+        task.shifts,
         opened.doors.as_mut_slice(),
         &opened.listeners,
-        &opened.shared,
-        &over,
-        said,
     );
+    drop(program);
     drop(place);
     drop(opened);
     worked
@@ -116,10 +94,7 @@ struct Listeners {
 }
 
 /// Opens all that a gateway is reached by.
-fn open_all<T>(rt: &T, alloc: Global, settings: &Settings) -> Result<Opened, Stop>
-where
-    T: Eprint + Net<Listener = TcpListener, Stream = TcpStream>,
-{
+fn open_all(rt: &HostRuntime, alloc: Global, settings: &Settings) -> Result<Opened, Stop> {
     let socket = socket_of(rt, alloc, settings)?;
     match listeners_of(rt, settings) {
         Ok(listeners) => open_beside(alloc, settings, socket, listeners),
@@ -192,7 +167,7 @@ fn opened_of(
 }
 
 /// The socket of datagrams.
-fn socket_of<T: Eprint + Net>(rt: &T, alloc: Global, settings: &Settings) -> Result<Socket, Stop> {
+fn socket_of(rt: &HostRuntime, alloc: Global, settings: &Settings) -> Result<Socket, Stop> {
     match Socket::bind(rt, alloc, settings.listen) {
         Ok(socket) => Ok(socket),
         Err(error) => Err(no_socket(rt, "listen", error.kind())),
@@ -219,10 +194,7 @@ fn shared_by(alloc: Global, settings: &Settings, pool: Pool<TcpStream>) -> Resul
 }
 
 /// The listeners of links and of the page.
-fn listeners_of<T>(rt: &T, settings: &Settings) -> Result<Listeners, Stop>
-where
-    T: Eprint + Net<Listener = TcpListener, Stream = TcpStream>,
-{
+fn listeners_of(rt: &HostRuntime, settings: &Settings) -> Result<Listeners, Stop> {
     match listener_at(rt, "link", settings.link) {
         Ok(link) => listeners_with(rt, settings, link),
         Err(stop) => Err(stop),
@@ -230,10 +202,11 @@ where
 }
 
 /// That of links, and that of the page.
-fn listeners_with<T>(rt: &T, settings: &Settings, link: TcpListener) -> Result<Listeners, Stop>
-where
-    T: Eprint + Net<Listener = TcpListener, Stream = TcpStream>,
-{
+fn listeners_with(
+    rt: &HostRuntime,
+    settings: &Settings,
+    link: TcpListener,
+) -> Result<Listeners, Stop> {
     match status_listener(rt, settings.status) {
         Ok(status) => Ok(Listeners { link, status }),
         Err(stop) => {
@@ -244,10 +217,7 @@ where
 }
 
 /// The listener of the page, if the settings name its address.
-fn status_listener<T>(rt: &T, at: Option<Addr>) -> Result<Option<TcpListener>, Stop>
-where
-    T: Eprint + Net<Listener = TcpListener, Stream = TcpStream>,
-{
+fn status_listener(rt: &HostRuntime, at: Option<Addr>) -> Result<Option<TcpListener>, Stop> {
     match at {
         None => Ok(None),
         Some(at) => match listener_at(rt, "status", at) {
@@ -258,10 +228,7 @@ where
 }
 
 /// The listener at an address, which this key of the settings names.
-fn listener_at<T>(rt: &T, key: &str, at: Addr) -> Result<TcpListener, Stop>
-where
-    T: Eprint + Net<Listener = TcpListener, Stream = TcpStream>,
-{
+fn listener_at(rt: &HostRuntime, key: &str, at: Addr) -> Result<TcpListener, Stop> {
     match TcpListener::bind(rt, address(at)) {
         Ok(listener) => without_waiting(listener),
         Err(error) => Err(no_socket(rt, key, error.kind())),
@@ -297,256 +264,158 @@ fn inlet_of(alloc: Global, settings: &Settings, socket: Socket) -> Result<Inlet,
 }
 
 /// Says which address of the settings cannot be had, and why.
-fn no_socket<T: Eprint>(rt: &T, key: &str, kind: ErrorKind) -> Stop {
+fn no_socket(rt: &HostRuntime, key: &str, kind: ErrorKind) -> Stop {
     let _ = eprintln!(rt; "{key}: {kind}");
     Stop::Socket
 }
 
-/// The shifts beside the doors.
-fn run_beside<T, R, D>(
-    rt: &T,
-    alloc: Global,
-    settings: &Settings,
-    place: &Mutex<Option<Node<R, D>>>,
+/// Works the shifts in this thread, and keeps the doors open in others.
+fn run_beside<T>(
+    program: &Program<'_, T>,
+    place: &Mutex<Option<Gateway>>,
     inlet: &mut Inlet,
     shifts: u64,
     doors: &mut [Door],
     listeners: &Listeners,
-    shared: &Shared,
-    over: &Stage,
-    said: Said<'_>,
 ) -> Result<(), Stop>
 where
-    T: Threads + Wait + Sync + Clock + Print + Eprint + Files<File = File>,
-    T: Net<Listener = TcpListener, Stream = TcpStream>,
-    T::Dir: Send,
-    R: Replica + Send,
-    R::Staged: Send,
-    D: Disk + Drop + Send,
+    T: Threads + Wait + Sync + Clock,
 {
     let mut keeping = || {
-        keep_and_show(rt, alloc, settings, doors, listeners, shared, over, said);
+        keep_and_show(program, doors, listeners);
     };
-    let mut shifting = || -> Result<(), Stop> {
-        work_through(
-            rt, alloc, settings, place, inlet, shared, shifts, over, said,
-        )
-    };
-    let ((), worked) = thread::join_mut(rt, &mut keeping, &mut shifting);
+    let mut shifting = || -> Result<(), Stop> { work_through(program, place, inlet, shifts) };
+    let ((), worked) = thread::join_mut(program.rt, &mut keeping, &mut shifting);
     worked
 }
 
 /// Keeps the doors open, and beside that shows the gateway if it is watched, until the program's
 /// work is over. If no thread can be made for the page, nothing is shown.
-fn keep_and_show<T>(
-    rt: &T,
-    alloc: Global,
-    settings: &Settings,
-    doors: &mut [Door],
-    listeners: &Listeners,
-    shared: &Shared,
-    over: &Stage,
-    said: Said<'_>,
-)
+fn keep_and_show<T>(program: &Program<'_, T>, doors: &mut [Door], listeners: &Listeners)
 where
-    T: Threads + Wait + Sync + Clock + Print + Eprint + Files<File = File>,
-    T: Net<Listener = TcpListener, Stream = TcpStream>,
-    T::Dir: Send,
+    T: Threads + Wait + Sync + Clock,
 {
-    if !shared.board.is_watched {
-        keep_all(rt, alloc, doors, &listeners.link, shared, over, said);
+    if !program.shared.board.is_watched {
+        keep_all(program, doors, &listeners.link);
         return;
     }
     let mut showing = || {
-        show_all(rt, alloc, settings, &listeners.status, shared, over, said);
+        show_all(program, &listeners.status);
     };
     let mut keeping = || {
-        keep_all(rt, alloc, doors, &listeners.link, shared, over, said);
+        keep_all(program, doors, &listeners.link);
     };
-    let ((), ()) = thread::join_mut(rt, &mut showing, &mut keeping);
+    let ((), ()) = thread::join_mut(program.rt, &mut showing, &mut keeping);
 }
 
-/// The shifts, and then the end of the doors.
-fn work_through<T, R, D>(
-    rt: &T,
-    alloc: Global,
-    settings: &Settings,
-    place: &Mutex<Option<Node<R, D>>>,
+/// Works so many shifts, and then ends the doors. Runs in the thread of shifts.
+fn work_through<T>(
+    program: &Program<'_, T>,
+    place: &Mutex<Option<Gateway>>,
     inlet: &mut Inlet,
-    shared: &Shared,
     shifts: u64,
-    over: &Stage,
-    said: Said<'_>,
 ) -> Result<(), Stop>
 where
-    T: Threads + Wait + Sync + Clock + Print + Eprint + Files<File = File>,
-    R: Replica + Send,
-    R::Staged: Send,
-    D: Disk + Drop + Send,
+    T: Threads + Wait + Sync + Clock,
 {
-    let worked = work_all(rt, alloc, settings, place, inlet, shared, shifts, said);
-    over.go_to(rt, Phase::Quiet);
+    let worked = work_all(program, place, inlet, shifts);
+    program.over.go_to(program.rt, Phase::Quiet);
     worked
 }
 
-/// The shifts, each with a line when it is over. Where the gateway was opened anew in a shift, that
-/// is told before its line. After it the gateway is tended if it was halted, or its journal has
-/// grown. While its writes fail it is silent between its tries: clients look for another one.
-fn work_all<T, R, D>(
-    rt: &T,
-    alloc: Global,
-    settings: &Settings,
-    place: &Mutex<Option<Node<R, D>>>,
+/// Works so many shifts, each with a line when it is over. If the gateway was opened anew in a
+/// shift, that is told before its line. After it the gateway is tended if it was halted, or its
+/// journal has grown. While its writes fail it is silent between its tries: clients look for
+/// another one.
+fn work_all<T>(
+    program: &Program<'_, T>,
+    place: &Mutex<Option<Gateway>>,
     inlet: &mut Inlet,
-    shared: &Shared,
     shifts: u64,
-    said: Said<'_>,
 ) -> Result<(), Stop>
 where
-    T: Threads + Wait + Sync + Clock + Print + Eprint + Files<File = File>,
-    R: Replica + Send,
-    R::Staged: Send,
-    D: Disk + Drop + Send,
+    T: Threads + Wait + Sync + Clock,
 {
-    let mut keeper = Keeper::of(settings.journal.as_str());
-    write_first(rt, alloc, place, inlet, shared, &mut keeper, said)?;
-    begin_dates(rt, &shared.pool.clock, shared.pool.clock.moment());
-    listen_first(rt, settings, &shared.pool);
+    let pool = &program.shared.pool;
+    let mut keeper = Keeper::of(program.settings.journal.as_str());
+    write_first(program, place, inlet, &mut keeper)?;
+    begin_dates(program.host, &pool.clock, pool.clock.moment());
+    listen_first(program.rt, program.settings, pool);
     for number in 0..shifts {
-        work_one(
-            rt,
-            alloc,
-            settings,
-            place,
-            inlet,
-            shared,
-            number,
-            &mut keeper,
-            said,
-        )?;
+        work_one(program, place, inlet, number, &mut keeper)?;
     }
     Ok(())
 }
 
-/// The shift of this number, from 0 on, with the gateway of its place. If none is there, nothing is
-/// done.
-fn work_one<T, R, D>(
-    rt: &T,
-    alloc: Global,
-    settings: &Settings,
-    place: &Mutex<Option<Node<R, D>>>,
+/// Works the shift of this number, from 0 on, with the gateway of its place, whose lock is held
+/// only to take it. If none is there, nothing is done.
+fn work_one<T>(
+    program: &Program<'_, T>,
+    place: &Mutex<Option<Gateway>>,
     inlet: &mut Inlet,
-    shared: &Shared,
     number: u64,
     keeper: &mut Keeper<'_>,
-    said: Said<'_>,
 ) -> Result<(), Stop>
 where
-    T: Threads + Wait + Sync + Clock + Print + Eprint + Files<File = File>,
-    R: Replica + Send,
-    R::Staged: Send,
-    D: Disk + Drop + Send,
+    T: Threads + Wait + Sync + Clock,
 {
-    let Some(node) = place.lock(rt).take() else {
+    let Some(node) = place.lock(program.rt).take() else {
         return Ok(());
     };
-    know_clients(alloc, settings, &node, inlet, shared.pool.clock.second());
-    let worked = work(rt, alloc, settings, node, inlet, shared, number)?;
-    end_in_place(
-        rt,
-        alloc,
-        settings,
-        place,
-        worked,
-        inlet,
-        shared,
-        number.saturating_add(1),
-        keeper,
-        said,
-    )
+    let second = program.shared.pool.clock.second();
+    know_clients(program.alloc, program.settings, &node, inlet, second);
+    let worked = work(program, node, inlet, number)?;
+    let number = number.saturating_add(1);
+    end_in_place(program, place, worked, inlet, number, keeper)
 }
 
 /// Ends the shift of this number, from 1 on, and puts the gateway back into its place. If the date
 /// was set meanwhile, the gateway is opened anew by it first.
-fn end_in_place<T, R, D>(
-    rt: &T,
-    alloc: Global,
-    settings: &Settings,
-    place: &Mutex<Option<Node<R, D>>>,
-    mut worked: Worked<R, D>,
+fn end_in_place<T: Wait>(
+    program: &Program<'_, T>,
+    place: &Mutex<Option<Gateway>>,
+    mut worked: Worked,
     inlet: &mut Inlet,
-    shared: &Shared,
     number: u64,
     keeper: &mut Keeper<'_>,
-    said: Said<'_>,
-) -> Result<(), Stop>
-where
-    T: Wait + Clock + Print + Eprint + Files<File = File>,
-    R: Replica,
-    D: Disk + Drop,
-{
+) -> Result<(), Stop> {
+    let rt = program.rt;
     let steps = worked.steps;
-    let ended = end_shift(
-        rt,
-        alloc,
-        settings,
-        &mut worked,
-        inlet,
-        shared,
-        number,
-        keeper,
-        said,
-    );
+    let ended = end_shift(program, &mut worked, inlet, number, keeper);
     if let Err(stop) = ended {
         put_back(rt, place, worked.node);
         return Err(stop);
     }
-    let node = by_date(
-        rt,
-        alloc,
-        worked.node,
-        inlet,
-        shared,
-        settings.lifetime,
-        said,
-    )?;
+    let node = by_date(program, worked.node, inlet)?;
     put_back(rt, place, node);
-    note_turn(rt, shared, number, steps);
+    note_turn(program.host, program.shared, number, steps);
     Ok(())
 }
 
 /// Tells of the shift of this number, from 1 on, which is over, and tends the gateway.
-fn end_shift<T, R, D>(
-    rt: &T,
-    alloc: Global,
-    settings: &Settings,
-    worked: &mut Worked<R, D>,
+fn end_shift<T: Wait>(
+    program: &Program<'_, T>,
+    worked: &mut Worked,
     inlet: &mut Inlet,
-    shared: &Shared,
     number: u64,
     keeper: &mut Keeper<'_>,
-    said: Said<'_>,
-) -> Result<(), Stop>
-where
-    T: Wait + Clock + Print + Eprint + Files<File = File>,
-    R: Replica,
-    D: Disk + Drop,
-{
-    if let Some(other) = shared.pool.relay.found_by(rt) {
-        return Err(used(rt, alloc, settings.gateway, other, said));
+) -> Result<(), Stop> {
+    let rt = program.rt;
+    if let Some(other) = program.shared.pool.relay.found_by(rt) {
+        return Err(used(program, other));
     }
     let steps = worked.steps;
     if worked.tended == Tended::Reopened {
-        shared.board.add(Number::Reopened);
+        program.shared.board.add(Number::Reopened);
     }
-    begin_anew(rt, alloc, &worked.node, &shared.pool, worked.tended, said);
-    let line = format!(in alloc; "shift {number} steps {steps}");
-    said.out.say(rt, line.ok());
-    go_on(rt, alloc, worked, inlet, shared, keeper, said)
+    begin_anew(program, &worked.node, worked.tended);
+    let line = format!(in program.alloc; "shift {number} steps {steps}");
+    program.said.out.say(rt, line.ok());
+    go_on(program, worked, inlet, keeper)
 }
 
 /// Counts a shift that is over, and how long it took since it had begun to close.
-fn note_turn<T: Clock>(rt: &T, shared: &Shared, number: u64, steps: usize) {
+fn note_turn(rt: &HostRuntime, shared: &Shared, number: u64, steps: usize) {
     let board = &shared.board;
     let closing = board.get(Number::Closing);
     board.set(Number::ShiftCalls, steps as u64);
@@ -559,53 +428,43 @@ fn note_turn<T: Clock>(rt: &T, shared: &Shared, number: u64, steps: usize) {
 }
 
 /// Puts a gateway into its place.
-fn put_back<T: Wait, R: Replica, D: Disk + Drop>(
-    rt: &T,
-    place: &Mutex<Option<Node<R, D>>>,
-    node: Node<R, D>,
-) {
+fn put_back<T: Wait>(rt: &T, place: &Mutex<Option<Gateway>>, node: Gateway) {
     drop(mem::replace(&mut *place.lock(rt), Some(node)));
 }
 
 /// Tends a gateway after its shift, if it was halted, or its journal has grown. If its writes fail
 /// again, it is silent for some seconds.
-fn go_on<T, R, D>(
-    rt: &T,
-    alloc: Global,
-    worked: &mut Worked<R, D>,
+fn go_on<T: Wait>(
+    program: &Program<'_, T>,
+    worked: &mut Worked,
     inlet: &mut Inlet,
-    shared: &Shared,
     keeper: &mut Keeper<'_>,
-    said: Said<'_>,
-) -> Result<(), Stop>
-where
-    T: Wait + Clock + Print + Eprint + Files<File = File>,
-    R: Replica,
-    D: Disk + Drop,
-{
+) -> Result<(), Stop> {
+    let host = program.host;
+    let shared = program.shared;
     let has_failed = worked.tended == Tended::Reopened || worked.node.is_halted();
     if has_failed {
-        shared.board.count_failure(rt);
+        shared.board.count_failure(host);
     }
-    if has_failed || (worked.has_written && keeper.is_grown(rt, alloc)) {
-        tend_behind(rt, alloc, &mut worked.node, shared, keeper, said)?;
+    if has_failed || (worked.has_written && keeper.is_grown(host, program.alloc)) {
+        tend_behind(program, &mut worked.node, keeper)?;
     }
     let silence = keeper.silence_after(worked.has_recorded, has_failed);
     if silence > 0 {
         shared.board.set(Number::Halted, 1);
-        be_silent(rt, inlet, shared, silence);
+        be_silent(host, inlet, shared, silence);
         shared.board.set(Number::Halted, 0);
-        shared.board.note_failed(rt);
+        shared.board.note_failed(host);
     }
     Ok(())
 }
 
 /// From now on the clients that the gateway knows are no newcomers. If memory runs out, some of
 /// them are taken for newcomers.
-fn know_clients<R: Replica, D: Disk + Drop>(
+fn know_clients(
     alloc: Global,
     settings: &Settings,
-    node: &Node<R, D>,
+    node: &Gateway,
     inlet: &mut Inlet,
     second: u64,
 ) {
@@ -625,14 +484,12 @@ fn listen_first<T: Wait + Clock>(rt: &T, settings: &Settings, pool: &Pool<TcpStr
 }
 
 /// Says that another gateway has what this one must have made, and has not.
-fn used<T>(rt: &T, alloc: Global, own: u8, other: u8, said: Said<'_>) -> Stop
-where
-    T: Wait + Print + Eprint,
-{
-    let line = format!(in alloc;
+fn used<T: Wait>(program: &Program<'_, T>, other: u8) -> Stop {
+    let own = program.settings.gateway;
+    let line = format!(in program.alloc;
         "link: gateway {other} has what gateway {own} made, and this journal does not: it is not the newest one, or the number was used before"
     );
-    said.err.say(rt, line.ok());
+    program.said.err.say(program.rt, line.ok());
     Stop::Number
 }
 
@@ -640,48 +497,32 @@ where
 /// left may have octets that its last sync did not keep, which the system would call kept: after
 /// this nothing rests on them. A gateway that cannot write, or has no memory for that, says at each
 /// try how it stands, and is silent until it can.
-fn write_first<T, R, D>(
-    rt: &T,
-    alloc: Global,
-    place: &Mutex<Option<Node<R, D>>>,
+fn write_first<T: Wait>(
+    program: &Program<'_, T>,
+    place: &Mutex<Option<Gateway>>,
     inlet: &mut Inlet,
-    shared: &Shared,
     keeper: &mut Keeper<'_>,
-    said: Said<'_>,
-) -> Result<(), Stop>
-where
-    T: Wait + Clock + Print + Eprint + Files<File = File>,
-    R: Replica,
-    D: Disk + Drop,
-{
-    let Some(mut node) = place.lock(rt).take() else {
+) -> Result<(), Stop> {
+    let Some(mut node) = place.lock(program.rt).take() else {
         return Ok(());
     };
-    let written = write_anew(rt, alloc, &mut node, inlet, shared, keeper, said);
-    put_back(rt, place, node);
+    let written = write_anew(program, &mut node, inlet, keeper);
+    put_back(program.rt, place, node);
     written
 }
 
 /// Tries to write what was read until it is written.
-fn write_anew<T, R, D>(
-    rt: &T,
-    alloc: Global,
-    node: &mut Node<R, D>,
+fn write_anew<T: Wait>(
+    program: &Program<'_, T>,
+    node: &mut Gateway,
     inlet: &mut Inlet,
-    shared: &Shared,
     keeper: &mut Keeper<'_>,
-    said: Said<'_>,
-) -> Result<(), Stop>
-where
-    T: Wait + Clock + Print + Eprint + Files<File = File>,
-    R: Replica,
-    D: Disk + Drop,
-{
+) -> Result<(), Stop> {
     if node.records() == 0 {
         return Ok(());
     }
-    for _ in rt.forever() {
-        if write_once(rt, alloc, node, inlet, shared, keeper, said)? {
+    for _ in program.rt.forever() {
+        if write_once(program, node, inlet, keeper)? {
             return Ok(());
         }
     }
@@ -689,41 +530,28 @@ where
 }
 
 /// Tries it once, and waits if it is not written. True if it is.
-fn write_once<T, R, D>(
-    rt: &T,
-    alloc: Global,
-    node: &mut Node<R, D>,
+fn write_once<T: Wait>(
+    program: &Program<'_, T>,
+    node: &mut Gateway,
     inlet: &mut Inlet,
-    shared: &Shared,
     keeper: &mut Keeper<'_>,
-    said: Said<'_>,
-) -> Result<bool, Stop>
-where
-    T: Wait + Clock + Print + Eprint + Files<File = File>,
-    R: Replica,
-    D: Disk + Drop,
-{
-    let tended = tend_behind(rt, alloc, node, shared, keeper, said)?;
+) -> Result<bool, Stop> {
+    let tended = tend_behind(program, node, keeper)?;
     if tended == Tended::Starved {
-        tell(rt, alloc, node, said);
+        tell(program, node);
     }
     let is_done = is_written(tended);
     if is_done {
         keeper.note_written();
-        shared.board.set(Number::Halted, 0);
+        program.shared.board.set(Number::Halted, 0);
     } else {
-        wait_halted(rt, inlet, shared, keeper);
+        wait_halted(program.host, inlet, program.shared, keeper);
     }
     Ok(is_done)
 }
 
 /// Notes that the gateway cannot write, and waits. What has come meanwhile is dropped.
-fn wait_halted<T: Clock + Wait>(
-    rt: &T,
-    inlet: &mut Inlet,
-    shared: &Shared,
-    keeper: &mut Keeper<'_>,
-) {
+fn wait_halted(rt: &HostRuntime, inlet: &mut Inlet, shared: &Shared, keeper: &mut Keeper<'_>) {
     let silence = keeper.wait_longer();
     shared.board.set(Number::Halted, 1);
     shared.board.note_failed(rt);
@@ -731,7 +559,7 @@ fn wait_halted<T: Clock + Wait>(
 }
 
 /// Waits so many seconds. What has come meanwhile is dropped.
-fn be_silent<T: Clock>(rt: &T, inlet: &mut Inlet, shared: &Shared, seconds: u64) {
+fn be_silent(rt: &HostRuntime, inlet: &mut Inlet, shared: &Shared, seconds: u64) {
     if seconds > 0 {
         thread::sleep(rt, Duration::from_secs(seconds));
         inlet.drop_all(&shared.pool.clock, &shared.board);
@@ -739,34 +567,28 @@ fn be_silent<T: Clock>(rt: &T, inlet: &mut Inlet, shared: &Shared, seconds: u64)
 }
 
 /// Tends the gateway after a shift.
-fn tend_behind<T, R, D>(
-    rt: &T,
-    alloc: Global,
-    node: &mut Node<R, D>,
-    shared: &Shared,
+fn tend_behind<T: Wait>(
+    program: &Program<'_, T>,
+    node: &mut Gateway,
     keeper: &mut Keeper<'_>,
-    said: Said<'_>,
-) -> Result<Tended, Stop>
-where
-    T: Wait + Clock + Print + Eprint + Files<File = File>,
-    R: Replica,
-    D: Disk + Drop,
-{
-    let before = keeper.lengths(rt, alloc);
+) -> Result<Tended, Stop> {
+    let rt = program.host;
+    let before = keeper.lengths(rt, program.alloc);
     let began = millisecond(rt);
-    match tend(alloc, node) {
+    match tend(program.alloc, node) {
         Ok(tended) => {
-            note_tended(rt, shared, tended, millisecond(rt).saturating_sub(began));
-            begin_anew(rt, alloc, node, &shared.pool, tended, said);
-            keeper.note_tended(rt, alloc, before, tended);
+            let took = millisecond(rt).saturating_sub(began);
+            note_tended(rt, program.shared, tended, took);
+            begin_anew(program, node, tended);
+            keeper.note_tended(rt, program.alloc, before, tended);
             Ok(tended)
         }
-        Err(fault) => Err(Stop::Reopening(number_of(&fault))),
+        Err(fault) => Err(Stop::Reopening(begin_fault_number(&fault))),
     }
 }
 
 /// Counts what became of a gateway that was tended in so many milliseconds.
-fn note_tended<T: Clock>(rt: &T, shared: &Shared, tended: Tended, milliseconds: u64) {
+fn note_tended(rt: &HostRuntime, shared: &Shared, tended: Tended, milliseconds: u64) {
     let board = &shared.board;
     board.note_time(Number::Compaction, Number::LongestCompaction, milliseconds);
     match tended {
@@ -784,40 +606,23 @@ fn note_tended<T: Clock>(rt: &T, shared: &Shared, tended: Tended, milliseconds: 
     }
 }
 
-/// Where a gateway was opened anew, how it stands is printed as at the start, and the links are
-/// closed: it may have read what it never told, and over a new link the other end asks for that.
-fn begin_anew<T, R, D, S>(
-    rt: &T,
-    alloc: Global,
-    node: &Node<R, D>,
-    pool: &Pool<S>,
-    tended: Tended,
-    said: Said<'_>,
-)
-where
-    T: Wait + Print + Eprint,
-    R: Replica,
-    D: Disk + Drop,
-    S: Drop,
-{
+/// If a gateway was opened anew, says how it stands as at the start, and closes the links. It may
+/// have read what it never told, and over a new link the other end asks for that.
+fn begin_anew<T: Wait>(program: &Program<'_, T>, node: &Gateway, tended: Tended) {
     if tended == Tended::Reopened || tended == Tended::Unwritten {
-        pool.close_all(rt);
-        tell(rt, alloc, node, said);
+        program.shared.pool.close_all(program.rt);
+        tell(program, node);
     }
 }
 
 /// Says how the gateway stands. If memory runs out the line is left out.
-pub(crate) fn tell<T, R, D>(rt: &T, alloc: Global, node: &Node<R, D>, said: Said<'_>)
-where
-    T: Wait + Print + Eprint,
-    R: Replica,
-    D: Disk + Drop,
-{
-    said.out.say(rt, state_of(alloc, node));
+pub(crate) fn tell<T: Wait>(program: &Program<'_, T>, node: &Gateway) {
+    let line = state_of(program.alloc, node);
+    program.said.out.say(program.rt, line);
 }
 
 /// The line that says how a gateway stands. `None` if memory runs out.
-fn state_of<R: Replica, D: Disk + Drop>(alloc: Global, node: &Node<R, D>) -> Option<String> {
+fn state_of(alloc: Global, node: &Gateway) -> Option<String> {
     let count = node.clients(alloc).ok()?.len();
     let (gateway, records) = (node.gateway(), node.records());
     format!(in alloc; "gateway {gateway} records {records} clients {count}").ok()

@@ -4,30 +4,27 @@
 //! It asks for memory and for sockets as it goes. If it gets none, what it shows is late, and the
 //! gateway goes on.
 
-use crate::board::{Number, Shared};
+use crate::board::Number;
 use crate::callers::{Caller, room_for_piece, serve_calls, take_calls};
 use crate::gathering::{Gathered, gather, look_at_rounds, no_report, none_gathered};
 use crate::happenings::{Happened, nothing_happened, tell_all};
-use crate::lines::Said;
-use gw_link::{Phase, Stage};
-use gw_main::options::Settings;
+use crate::program::Program;
+use gw_link::Phase;
 use gw_report::Report;
 use gw_wire::millisecond;
 use std::alloc::Global;
-use std::fs::{File, Files};
-use std::io::{Eprint, Print};
 use std::net::TcpListener;
 use std::sync::Wait;
 use std::time::Clock;
 
 /// How many milliseconds pass before it is looked again whether somebody calls, while somebody is
 /// served and while nobody is.
-const A_MOMENT: u64 = 5;
+const BUSY_WAIT_MS: u64 = 5;
 
-const A_LOOK: u64 = 50;
+const IDLE_WAIT_MS: u64 = 50;
 
 /// How many milliseconds pass before what is reported is gathered again.
-const A_SECOND: u64 = 1_000;
+const GATHER_INTERVAL_MS: u64 = 1_000;
 
 /// What the thread holds.
 #[derive(Drop)]
@@ -42,36 +39,27 @@ struct Watcher {
     looked: u64,
 }
 
-/// Shows the gateway until the program's work is over.
-pub(crate) fn show_all<T>(
-    rt: &T,
-    alloc: Global,
-    settings: &Settings,
-    listener: &Option<TcpListener>,
-    shared: &Shared,
-    over: &Stage,
-    said: Said<'_>,
-)
-where
-    T: Wait + Clock + Print + Eprint + Files<File = File>,
-{
+/// Shows the gateway until the program's work is over. Runs in the watcher's thread, and holds no
+/// lock while it reads or writes.
+pub(crate) fn show_all<T: Wait + Clock>(program: &Program<'_, T>, listener: &Option<TcpListener>) {
+    let rt = program.rt;
     for _ in rt.forever() {
-        if over.phase(rt) != Phase::Serving {
+        if program.over.phase(rt) != Phase::Serving {
             return;
         }
-        match watcher_of(rt, alloc) {
+        match watcher_of(program.host, program.alloc) {
             Some(watcher) => {
-                show(rt, alloc, settings, listener, shared, over, said, watcher);
+                show(program, listener, watcher);
                 return;
             }
-            None => over.wait(rt, Phase::Serving, A_SECOND),
+            None => program.over.wait(rt, Phase::Serving, GATHER_INTERVAL_MS),
         }
     }
     unreachable!()
 }
 
 /// What the thread holds before it has gathered anything. `None` if memory ran out.
-fn watcher_of<T: Clock>(rt: &T, alloc: Global) -> Option<Watcher> {
+fn watcher_of(rt: &HostRuntime, alloc: Global) -> Option<Watcher> {
     match room_for_piece(alloc) {
         Some(piece) => Some(Watcher {
             looked: 0,
@@ -86,101 +74,60 @@ fn watcher_of<T: Clock>(rt: &T, alloc: Global) -> Option<Watcher> {
 }
 
 /// Shows the gateway, by what the thread holds.
-fn show<T>(
-    rt: &T,
-    alloc: Global,
-    settings: &Settings,
+fn show<T: Wait + Clock>(
+    program: &Program<'_, T>,
     listener: &Option<TcpListener>,
-    shared: &Shared,
-    over: &Stage,
-    said: Said<'_>,
     watcher: Watcher,
-)
-where
-    T: Wait + Clock + Print + Eprint + Files<File = File>,
-{
+) {
     let mut watcher = watcher;
-    shared.board.set(Number::Watcher, 1);
-    watch(
-        rt,
-        alloc,
-        settings,
-        listener,
-        shared,
-        over,
-        said,
-        &mut watcher,
-    );
+    program.shared.board.set(Number::Watcher, 1);
+    watch(program, listener, &mut watcher);
     drop(watcher);
 }
 
 /// Gathers once in a second, and serves those who call meanwhile.
-fn watch<T>(
-    rt: &T,
-    alloc: Global,
-    settings: &Settings,
+fn watch<T: Wait + Clock>(
+    program: &Program<'_, T>,
     listener: &Option<TcpListener>,
-    shared: &Shared,
-    over: &Stage,
-    said: Said<'_>,
     watcher: &mut Watcher,
-)
-where
-    T: Wait + Clock + Print + Eprint + Files<File = File>,
-{
+) {
+    let rt = program.rt;
     for _ in rt.forever() {
-        if over.phase(rt) != Phase::Serving {
+        if program.over.phase(rt) != Phase::Serving {
             return;
         }
-        look(rt, alloc, settings, shared, said, watcher);
+        look(program, watcher);
         if let Some(listener) = listener {
-            take_calls(rt, alloc, listener, &mut watcher.callers);
+            take_calls(program.host, program.alloc, listener, &mut watcher.callers);
         }
         let is_serving = serve_calls(
-            rt,
-            alloc,
+            program.host,
+            program.alloc,
             &mut watcher.callers,
             watcher.piece.as_mut_slice(),
             &watcher.report,
         );
-        let pause = if is_serving { A_MOMENT } else { A_LOOK };
-        over.wait(rt, Phase::Serving, pause);
+        let pause = if is_serving {
+            BUSY_WAIT_MS
+        } else {
+            IDLE_WAIT_MS
+        };
+        program.over.wait(rt, Phase::Serving, pause);
     }
     unreachable!()
 }
 
 /// Gathers what is reported, and tells what happened, unless it has just done so.
-fn look<T>(
-    rt: &T,
-    alloc: Global,
-    settings: &Settings,
-    shared: &Shared,
-    said: Said<'_>,
-    watcher: &mut Watcher,
-)
-where
-    T: Wait + Clock + Print + Eprint + Files<File = File>,
-{
-    let now = millisecond(rt);
-    look_at_rounds(shared, &mut watcher.gathered, now);
-    if now.saturating_sub(watcher.looked) < A_SECOND {
+fn look<T: Wait + Clock>(program: &Program<'_, T>, watcher: &mut Watcher) {
+    let now = millisecond(program.host);
+    look_at_rounds(program.shared, &mut watcher.gathered, now);
+    if now.saturating_sub(watcher.looked) < GATHER_INTERVAL_MS {
         return;
     }
     watcher.looked = now;
-    gather(
-        rt,
-        alloc,
-        settings,
-        shared,
-        &mut watcher.gathered,
-        &mut watcher.report,
-    );
+    gather(program, &mut watcher.gathered, &mut watcher.report);
     tell_all(
-        rt,
-        alloc,
-        settings,
-        shared,
-        said,
+        program,
         &mut watcher.gathered,
         &mut watcher.happened,
         &mut watcher.report,

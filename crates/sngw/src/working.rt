@@ -1,24 +1,27 @@
 //! The threads of one shift.
+//!
+//! The thread of shifts becomes the reader's, once the others have begun: the clock's, one for each
+//! seat of links, the glance's if anybody watches, and workers (gw_serve). It waits for all of them
+//! before it closes the shift. No function here takes a lock.
 
 ghost use Rattle.std.specs.Prelude.{◌<◌, ◌≤◌};
 ghost use Rattle.gw_shift.specs.declared.shift.TheConstants.{MAX_STEPS};
 
-use crate::board::{Number, Shared};
+use crate::board::{Board, Number, Shared};
 use crate::glancing::glance_all;
-use crate::late::Inlet;
+use crate::held_over::Inlet;
 use crate::posting::Outlet;
+use crate::program::{Gateway, GatewayShift, GatewayWork, Program};
 use crate::stop::Stop;
 use crate::watched::Watched;
-use gw_link::{End, Phase, Stage};
+use gw_link::{End, Phase, Stage, Work};
 use gw_main::Tended;
 use gw_main::options::Settings;
-use gw_node::{Node, Step};
+use gw_node::Step;
 use gw_run::{MOST_ACCEPTED, Seat, sit, tick_all};
 use gw_serve::{Cause, serve};
 use gw_shift::{Closed, Entry, MAX_STEPS, Pass, Shift, tally};
 use gw_wire::{FieldClock, OpenGate, Post, Wire, millisecond};
-use jr_disk::Disk;
-use rep_model::Replica;
 use std::alloc::Global;
 use std::sync::Wait;
 use std::thread::Threads;
@@ -47,9 +50,9 @@ struct Made {
 
 /// A shift that was closed.
 #[derive(Drop)]
-pub struct Worked<R: Replica, D: Disk> {
+pub struct Worked {
     /// The gateway.
-    pub node: Node<R, D>,
+    pub node: Gateway,
     /// How many calls were made.
     pub steps: usize,
     /// Whether one of them opened it anew.
@@ -60,24 +63,22 @@ pub struct Worked<R: Replica, D: Disk> {
     pub has_recorded: bool,
 }
 
-/// Works the shift of this number, and the gateway comes back. A datagram that came late, or is
-/// there already, has a call before clock and links ask for any; where a shift has one call alone,
-/// in every other shift, so that nobody is kept from it.
-pub(crate) fn work<T, R, D>(
-    rt: &T,
-    alloc: Global,
-    settings: &Settings,
-    node: Node<R, D>,
+/// Works the shift of this number, and gives the gateway back. A datagram that came late, or is
+/// there already, has a call before clock and links ask for any. If a shift has one call alone, it
+/// has that in every other shift, so that nobody is kept from it. Runs in the thread of shifts,
+/// which waits here for all threads of the shift.
+pub(crate) fn work<T>(
+    program: &Program<'_, T>,
+    node: Gateway,
     inlet: &mut Inlet,
-    shared: &Shared,
     number: u64,
-) -> Result<Worked<R, D>, Stop>
+) -> Result<Worked, Stop>
 where
     T: Threads + Wait + Sync + Clock,
-    R: Replica + Send,
-    R::Staged: Send,
-    D: Disk + Drop + Send,
 {
+    let rt = program.rt;
+    let alloc = program.alloc;
+    let settings = program.settings;
     let workers = usize::from(settings.workers).max(1);
     let links = settings.peers.len().saturating_add(MOST_ACCEPTED);
     let steps = steps_of(settings);
@@ -88,44 +89,42 @@ where
     };
     let made = match crew_of(alloc, passes, workers) {
         Some(mut crew) => {
-            let made = work_by(
-                rt, alloc, settings, &shift, &mut crew, inlet, shared, number,
-            );
+            let made = work_by(program, &shift, &mut crew, inlet, number);
             drop(crew);
             made
         }
         None => Err(Stop::Memory),
     };
-    close(rt, alloc, shift, made, shared)
+    close(rt, alloc, shift, made, program.shared)
 }
 
-/// A crew works a shift, and gives the passes that made its calls.
-fn work_by<T, R, D>(
-    rt: &T,
-    alloc: Global,
-    settings: &Settings,
-    shift: &Shift<R, D>,
+/// Works a shift with a crew, and gives the passes that made its calls.
+fn work_by<T>(
+    program: &Program<'_, T>,
+    shift: &GatewayShift,
     crew: &mut Crew,
     inlet: &mut Inlet,
-    shared: &Shared,
     number: u64,
 ) -> Result<Made, Stop>
 where
     T: Threads + Wait + Sync + Clock,
-    R: Replica + Send,
-    R::Staged: Send,
-    D: Disk + Drop + Send,
 {
-    let steps = steps_of(settings);
-    let is_claimed = !shared.pool.listening.is_on()
+    let pool = &program.shared.pool;
+    let steps = steps_of(program.settings);
+    let is_claimed = !pool.listening.is_on()
         && (steps > 1 || number % 2 == 0)
-        && has_first(inlet, &shared.pool.clock);
+        && has_first(inlet, &pool.clock);
+    inlet.late.note_claim(is_claimed);
     let stage = Stage::new(steps, u64::from(is_claimed));
-    shared.pool.begin_shift(rt);
-    work_all(
-        rt, alloc, settings, shift, crew, inlet, is_claimed, shared, &stage,
-    )?;
-    made_by(alloc, crew)
+    pool.begin_shift(program.rt);
+    let work = Work {
+        rt: program.rt,
+        alloc: program.alloc,
+        shift,
+        stage: &stage,
+    };
+    work_all(program, &work, crew, inlet)?;
+    made_by(program.alloc, crew)
 }
 
 /// Whether a datagram came late, or is there already.
@@ -161,24 +160,16 @@ fn crew_of(alloc: Global, passes: Vec<Pass>, workers: usize) -> Option<Crew> {
     Some(crew)
 }
 
-/// Links beside ticks beside datagrams, until the shift is over. Once the last two are, the gateway
-/// makes no more deltas, and the links tell what is left.
-fn work_all<T, R, D>(
-    rt: &T,
-    alloc: Global,
-    settings: &Settings,
-    shift: &Shift<R, D>,
+/// Serves links beside ticks beside datagrams, until the shift is over. Once the last two are, the
+/// gateway makes no more deltas, and the links tell what is left. Links have threads of their own.
+fn work_all<T>(
+    program: &Program<'_, T>,
+    work: &GatewayWork<'_, T>,
     crew: &mut Crew,
     inlet: &mut Inlet,
-    is_claimed: bool,
-    shared: &Shared,
-    stage: &Stage,
 ) -> Result<(), Stop>
 where
     T: Threads + Wait + Sync + Clock,
-    R: Replica + Send,
-    R::Staged: Send,
-    D: Disk + Drop + Send,
 {
     let Crew {
         serving,
@@ -186,100 +177,60 @@ where
         linking,
     } = crew;
     let mut talking = || {
-        sit_and_look(
-            rt,
-            alloc,
-            settings,
-            shift,
-            linking.as_mut_slice(),
-            shared,
-            stage,
-        );
+        sit_and_look(program, work, linking.as_mut_slice());
     };
     let mut working = || -> Result<(), Stop> {
-        let seats = ticking.as_mut_slice();
-        let served = serve_and_tick(
-            rt, alloc, shift, serving, seats, inlet, is_claimed, shared, stage,
-        );
-        stage.go_to(rt, Phase::Quiet);
-        shared.pool.be_quiet(rt);
+        let served = serve_and_tick(program, work, serving, ticking.as_mut_slice(), inlet);
+        work.stage.go_to(work.rt, Phase::Quiet);
+        program.shared.pool.be_quiet(work.rt);
         served
     };
-    let ((), served) = thread::join_mut(rt, &mut talking, &mut working);
+    let ((), served) = thread::join_mut(work.rt, &mut talking, &mut working);
     served
 }
 
-/// Links, and beside them a glance at the clients if anybody watches. If no thread can be made for
-/// that, it is left out.
-fn sit_and_look<T, R, D>(
-    rt: &T,
-    alloc: Global,
-    settings: &Settings,
-    shift: &Shift<R, D>,
-    seats: &mut [Option<Seat>],
-    shared: &Shared,
-    stage: &Stage,
-)
+/// Serves links, and beside them glances at the clients if anybody watches. If no thread can be
+/// made for that, it is left out.
+fn sit_and_look<T>(program: &Program<'_, T>, work: &GatewayWork<'_, T>, seats: &mut [Option<Seat>])
 where
     T: Threads + Wait + Sync + Clock,
-    R: Replica + Send,
-    R::Staged: Send,
-    D: Disk + Drop + Send,
 {
-    let gateway = settings.gateway;
-    if !shared.board.is_watched {
-        sit_all(rt, alloc, shift, seats, shared, gateway, stage);
+    if !program.shared.board.is_watched {
+        sit_all(program, work, seats);
         return;
     }
-    let mut sitting = || sit_all(rt, alloc, shift, seats, shared, gateway, stage);
-    let mut looking = || glance_all(rt, alloc, settings, shift, shared, stage);
-    let ((), ()) = thread::join_mut(rt, &mut looking, &mut sitting);
+    let mut sitting = || sit_all(program, work, seats);
+    let mut looking = || glance_all(program, work);
+    let ((), ()) = thread::join_mut(work.rt, &mut looking, &mut sitting);
 }
 
-/// A thread for each seat of links.
-fn sit_all<T, R, D>(
-    rt: &T,
-    alloc: Global,
-    shift: &Shift<R, D>,
-    seats: &mut [Option<Seat>],
-    shared: &Shared,
-    gateway: u8,
-    stage: &Stage,
-)
+/// Lets links talk at all seats, each in a thread of its own.
+fn sit_all<T>(program: &Program<'_, T>, work: &GatewayWork<'_, T>, seats: &mut [Option<Seat>])
 where
     T: Threads + Wait + Sync + Clock,
-    R: Replica + Send,
-    R::Staged: Send,
-    D: Disk + Drop + Send,
 {
     let count = seats.len();
     if count > 0 {
         let at = |_place: usize, slot: &mut Option<Seat>| {
             if let Some(seat) = slot.take() {
-                *slot = Some(sit(rt, alloc, shift, seat, &shared.pool, gateway, stage));
+                let gateway = program.settings.gateway;
+                *slot = Some(sit(work, seat, &program.shared.pool, gateway));
             }
         };
-        thread::for_each_mut(rt, seats, count, &at);
+        thread::for_each_mut(work.rt, seats, count, &at);
     }
 }
 
-/// Ticks beside datagrams.
-fn serve_and_tick<T, R, D>(
-    rt: &T,
-    alloc: Global,
-    shift: &Shift<R, D>,
+/// Serves ticks beside datagrams.
+fn serve_and_tick<T>(
+    program: &Program<'_, T>,
+    work: &GatewayWork<'_, T>,
     passes: &mut Vec<Pass>,
     seats: &mut [Option<Seat>],
     inlet: &mut Inlet,
-    is_claimed: bool,
-    shared: &Shared,
-    stage: &Stage,
 ) -> Result<(), Stop>
 where
     T: Threads + Wait + Sync + Clock,
-    R: Replica + Send,
-    R::Staged: Send,
-    D: Disk + Drop + Send,
 {
     let Inlet {
         socket,
@@ -287,114 +238,111 @@ where
         fence,
         admission,
     } = inlet;
+    let shared = program.shared;
     let (mut ears, mouth) = socket.sides(&shared.pool.clock);
-    let mut watched = Watched::new(
-        rt, alloc, &mut ears, mouth, stage, late, is_claimed, shared, admission,
-    );
+    let mut watched = Watched::new(program, &mut ears, mouth, work.stage, late, admission);
     serve_beside(
-        rt,
-        alloc,
-        shift,
+        program,
+        work,
         passes,
         seats,
         &mut watched,
-        &Outlet::new(rt, alloc, &mouth, stage, fence, shared),
-        shared,
-        stage,
+        &Outlet::new(work.rt, work.alloc, &mouth, work.stage, fence, shared),
     )
 }
 
-/// The same at the two sides of the socket.
-fn serve_beside<T, R, D, W, P>(
-    rt: &T,
-    alloc: Global,
-    shift: &Shift<R, D>,
+/// Serves ticks beside datagrams, at the two sides of the socket. The clock has a thread of its
+/// own; this one reads.
+fn serve_beside<T, W, P>(
+    program: &Program<'_, T>,
+    work: &GatewayWork<'_, T>,
     passes: &mut Vec<Pass>,
     seats: &mut [Option<Seat>],
     wire: &mut W,
     post: &P,
-    shared: &Shared,
-    stage: &Stage,
 ) -> Result<(), Stop>
 where
     T: Threads + Wait + Sync + Clock,
-    R: Replica + Send,
-    R::Staged: Send,
-    D: Disk + Drop + Send,
     W: Wire,
     P: Post + Sync,
 {
-    let mut ticking = || tick_at(rt, alloc, shift, seats, stage, post, shared);
+    let mut ticking = || tick_at(program, work, seats, post);
     let mut serving = || -> Result<(), Stop> {
-        let served = serve_all(rt, alloc, shift, passes, wire, post, stage);
-        shared.board.set(Number::Closing, millisecond(rt));
-        stage.close(rt);
+        let board = &program.shared.board;
+        let served = serve_all(board, work, passes, wire, post);
+        board.set(Number::Closing, millisecond(program.host));
+        work.stage.close(work.rt);
         served
     };
-    let ((), served) = thread::join_mut(rt, &mut ticking, &mut serving);
+    let ((), served) = thread::join_mut(work.rt, &mut ticking, &mut serving);
     served
 }
 
-/// Ticks at the seat.
-fn tick_at<T, R, D, P>(
-    rt: &T,
-    alloc: Global,
-    shift: &Shift<R, D>,
+/// Ticks at the seat. Runs in the clock's thread.
+fn tick_at<T: Wait + Clock, P: Post>(
+    program: &Program<'_, T>,
+    work: &GatewayWork<'_, T>,
     seats: &mut [Option<Seat>],
-    stage: &Stage,
     post: &P,
-    shared: &Shared,
-)
-where
-    T: Wait + Clock,
-    R: Replica,
-    D: Disk + Drop,
-    P: Post,
-{
+) {
     for slot in seats {
         if let Some(seat) = slot.take() {
-            let (pass, end) = tick_all(rt, alloc, shift, seat.pass, stage, post, &shared.pool);
+            let (pass, end) = tick_all(work, seat.pass, post, &program.shared.pool);
             *slot = Some(Seat { pass, end });
         }
     }
 }
 
-/// Serves datagrams until the shift has had all its calls, or is to close.
-fn serve_all<T, R, D, W, P>(
-    rt: &T,
-    alloc: Global,
-    shift: &Shift<R, D>,
+/// Serves datagrams until the shift has had all its calls, or is to close. Neither is a fault. What
+/// is left over counts as dropped. Runs in the reader's thread.
+fn serve_all<T, W, P>(
+    board: &Board,
+    work: &GatewayWork<'_, T>,
     passes: &mut Vec<Pass>,
     wire: &mut W,
     post: &P,
-    stage: &Stage,
 ) -> Result<(), Stop>
 where
     T: Threads + Wait + Sync + Clock,
-    R: Replica + Send,
-    R::Staged: Send,
-    D: Disk + Drop + Send,
     W: Wire,
     P: Post + Sync,
 {
+    let rt = work.rt;
+    let alloc = work.alloc;
     let given = mem::replace(passes, Vec::new(alloc));
     if given.is_empty() {
         return Ok(());
     }
-    match serve(rt, alloc, shift, given, wire, post, &OpenGate, u64::MAX) {
+    match serve(
+        rt,
+        alloc,
+        work.shift,
+        given,
+        wire,
+        post,
+        &OpenGate,
+        u64::MAX,
+    ) {
         Ok(served) => {
+            count_left(board, served.left.as_slice());
             *passes = served.passes;
             Ok(())
         }
         Err(fault) => {
             *passes = fault.passes;
             match fault.cause {
-                Cause::Wire if stage.phase(rt) != Phase::Serving => Ok(()),
                 Cause::Wire => Err(Stop::Socket),
                 Cause::Memory => Err(Stop::Memory),
                 Cause::Behind => Err(Stop::History),
             }
         }
+    }
+}
+
+/// Counts the datagrams of these numbers as dropped: they came, and became no call.
+fn count_left(board: &Board, left: &[u64]) {
+    for _ in left {
+        board.add(Number::Dropped);
     }
 }
 
@@ -413,18 +361,13 @@ fn made_by(alloc: Global, crew: &mut Crew) -> Result<Made, Stop> {
 
 /// Ends the shift, and compares its history with what its threads hold. If the crew failed, the
 /// shift is dropped.
-fn close<T, R, D>(
+fn close<T: Wait>(
     rt: &T,
     alloc: Global,
-    shift: Shift<R, D>,
+    shift: GatewayShift,
     made: Result<Made, Stop>,
     shared: &Shared,
-) -> Result<Worked<R, D>, Stop>
-where
-    T: Wait,
-    R: Replica,
-    D: Disk + Drop,
-{
+) -> Result<Worked, Stop> {
     let Made { passes, tended } = match made {
         Ok(made) => made,
         Err(stop) => {

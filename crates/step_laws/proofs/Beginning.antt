@@ -21,7 +21,7 @@ use Rattle.sn_exchange.specs.declared.peer.Peer.{Peer}
 use Rattle.sn_exchange.specs.declared.delivery.ToldId.{ToldId}
 use Rattle.sn_exchange.specs.Forms.{form_of, form_again, publication}
 use Rattle.sn_exchange.specs.Exchanges.{left, put_left, message_of, open_exchange, is_awake}
-use Rattle.sn_exchange.specs.Delivery.{Stop, next_after, id_to_tell, begun, register_first, deliver_by, none_left, and_then, deliver, deliver_left}
+use Rattle.sn_exchange.specs.Delivery.{Stop, next_after, id_to_tell, exchange_begun, register_first, deliver_by, none_left, and_then, deliver, deliver_left}
 use Rattle.sn_exchange.specs.Resending.{given_up, register_by, publish_by, resend_in, resend_if}
 use Rattle.sn_exchange.specs.Following.{followed_by}
 use Rattle.step_laws.specs.Laws.{EndsFirst, OneExchange}
@@ -63,7 +63,7 @@ module _ (predefined : Entries) (peer : Peer) (s : Session) where
   register_adds : (put : Put) (told : Option ToldId) (d : Drafted) → Adds d (register_first peer s put told d).1
   register_adds put None d = adds_none d (acked (name_of put) d) refl
   register_adds put (Some told) d =
-      adds_both d (changed_if told.change d) (begun peer s put Registering (frames.Register told.id s.next_id put.topic) (changed_if told.change d))
+      adds_both d (changed_if told.change d) (exchange_begun peer s put Registering (frames.Register told.id s.next_id put.topic) (changed_if told.change d))
       (change_adds told.change d)
       (Outbound (Some (record { origin = put.origin; seq = put.seq; msg_id = s.next_id; phase = Registering })) (next_after s.next_id) ∷ [], refl)
 
@@ -71,7 +71,7 @@ module _ (predefined : Entries) (peer : Peer) (s : Session) where
   form_adds put None d = register_adds put (id_to_tell s put.topic) d
   form_adds put (Some form) d =
       choose_stop_adds (put.qos == 0) (false, acked (name_of put) (sent peer.address (publication false put 0 form) d))
-      (true, begun peer s put Published (publication false put s.next_id form) d) d
+      (true, exchange_begun peer s put Published (publication false put s.next_id form) d) d
       (adds_none d (acked (name_of put) (sent peer.address (publication false put 0 form) d)) refl)
       (Outbound (Some (record { origin = put.origin; seq = put.seq; msg_id = s.next_id; phase = Published })) (next_after s.next_id) ∷ [], refl)
 

@@ -18,7 +18,7 @@ use Rattle.sn_plan.specs.Drafts.{Drafted}
 use Rattle.sn_local.specs.Seen.{Seen}
 use Rattle.sn_plan.specs.Plans.{plan_of}
 use Rattle.sn_plan.specs.Numbering.{handed_to}
-use Rattle.sn_plan.specs.Own.{IsOwn, unnamed, messages, handed_in}
+use Rattle.sn_plan.specs.Own.{IsOwnWrite, unnamed, new_messages, handed_in}
 use Rattle.sn_plan.proofs.Lists.{all-both, all-map}
 use Rattle.row_laws.proofs.Names.{plan-own}
 use Rattle.row_laws.proofs.Waiting.{plan-messages, plan-handed}
@@ -62,11 +62,11 @@ IsPutForNamed S (OfPut d p) = is_named d S ≡ true
 IsPutForNamed S (Ack d origin first last) = Unit {0}
 IsPutForNamed S (OfRetain topic kept) = Unit {0}
 
-puts_for_named : (S ops : List Op) → AllByRecursion (IsForNamed S) (messages ops) → AllByRecursion (IsForNamed S) (handed_in ops) → AllByRecursion (IsPutForNamed S) ops
+puts_for_named : (S ops : List Op) → AllByRecursion (IsForNamed S) (new_messages ops) → AllByRecursion (IsForNamed S) (handed_in ops) → AllByRecursion (IsPutForNamed S) ops
 puts_for_named S [] all given = tt
 puts_for_named S (OfSession d stamp counter change ∷ ops) all given = (tt, puts_for_named S ops all given)
 puts_for_named S (OfPut d p ∷ ops) all given =
-    elim p.retain as (λ b. AllByRecursion (IsForNamed S) (cons_option (if b then None else Some (unnamed d p)) (messages ops)) → AllByRecursion (IsForNamed S) (cons_option (if b then Some (unnamed d p) else None) (handed_in ops))
+    elim p.retain as (λ b. AllByRecursion (IsForNamed S) (cons_option (if b then None else Some (unnamed d p)) (new_messages ops)) → AllByRecursion (IsForNamed S) (cons_option (if b then Some (unnamed d p) else None) (handed_in ops))
     → (is_named d S ≡ true) × AllByRecursion (IsPutForNamed S) ops) [
       | true ↦ λ made handed. (handed.0, puts_for_named S ops made handed.1)
       | false ↦ λ made handed. (made.0, puts_for_named S ops made.1 handed)
@@ -74,7 +74,7 @@ puts_for_named S (OfPut d p ∷ ops) all given =
 puts_for_named S (Ack d origin first last ∷ ops) all given = (tt, puts_for_named S ops all given)
 puts_for_named S (OfRetain t k ∷ ops) all given = (tt, puts_for_named S ops all given)
 
-own_named : (g : ℕ) (c : List ℕ) (S : List Op) → is_named c S ≡ true → (op : Op) → IsOwn g c op → IsPutForNamed S op → IsOfNamed S op
+own_named : (g : ℕ) (c : List ℕ) (S : List Op) → is_named c S ≡ true → (op : Op) → IsOwnWrite g c op → IsPutForNamed S op → IsOfNamed S op
 own_named g c S there (OfSession d stamp counter change) own is e h = ap (λ x. is_named x S) (same_client-true e d h ∙ own.0) ∙ there
 own_named g c S there (OfPut d p) own is e h = ap (λ x. is_named x S) (same_client-true e d h) ∙ is
 own_named g c S there (OfRetain t k) own is e h = absurd (true≢false (sym h))
@@ -86,7 +86,7 @@ pub plan-clients : (g : ℕ) (c : List ℕ) (S : List Op) (seen : Seen) (d : Dra
     → is_named c S ≡ true → AllByRecursion (IsForNamed S) d.puts → clients (S ++ plan.ops) ≡ clients S
 plan-clients g c S seen d plan planned there all =
     clients_stay S plan.ops
-    (all-both (IsOwn g c) (IsPutForNamed S) (IsOfNamed S) (own_named g c S there) plan.ops (plan-own g c seen d plan planned)
+    (all-both (IsOwnWrite g c) (IsPutForNamed S) (IsOfNamed S) (own_named g c S there) plan.ops (plan-own g c seen d plan planned)
     (puts_for_named S plan.ops
     (subst (AllByRecursion (IsForNamed S)) (sym (plan-messages g c seen d plan planned)) all)
     (subst (AllByRecursion (IsForNamed S)) (sym (plan-handed g c seen d plan planned)) (all-map (IsForNamed S) (handed_to c) (λ m. there) d.handed))))

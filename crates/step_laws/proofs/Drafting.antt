@@ -45,9 +45,9 @@ use Rattle.sn_plan.specs.Plans.{plan_without}
 use Rattle.sn_local.specs.Bindings.{client_at, is_stamp_of, address_of}
 use Rattle.sn_local.specs.Locals.{Local}
 use Rattle.sn_plan.specs.Bound.{bound_to, session_of}
-use Rattle.sn_plan.specs.Rows.{row_of, row_of_none, row_lasting, heard_row}
+use Rattle.sn_plan.specs.Rows.{row_of, row_of_none, row_lasting, row_with_timer}
 use Rattle.sn_plan.specs.Asking.{retain_asked}
-use Rattle.sn_plan.specs.Own.{IsOneEach, IsApart, IsOfDraft}
+use Rattle.sn_plan.specs.Own.{IsOneEach, PutsApart, IsOfDraft}
 use Rattle.sn_plan.proofs.Made.{Made, made, SameMade, no_puts, no_handed}
 use Rattle.row_laws.proofs.Drafting.{row-drafted, connect-made, disconnect-made, will_topic-made, will_msg-made, will_topic_update-made, will_msg_update-made, register-made, subscribe-puts, unsubscribe-made, other-made}
 use Rattle.sn_exchange.specs.declared.form.Form.{Form}
@@ -60,18 +60,18 @@ use Rattle.sn_publish.specs.declared.meaning.Meant.TheVariants.{Topic, Refused}
 use Rattle.sn_exchange.specs.Forms.{form_of, form_again}
 use Rattle.sn_exchange.specs.Exchanges.{left, put_left, message_of, open_exchange, is_served, is_awake}
 use Rattle.sn_publish.specs.Recipients.{puts_among, puts_for, is_another, qos_for}
-use Rattle.sn_publish.specs.Publishing.{publication_meant, spread_twice, publish_at, publish_meant, spread_meant, release}
+use Rattle.sn_publish.specs.Publishing.{publication_meant, publish_at_2, publish_at, publish_meant, spread_meant, release}
 use Rattle.sn_exchange.specs.Delivery.{Stop, id_to_tell, register_first, deliver_by, none_left, and_then, deliver, deliver_left, deliver_if}
 use Rattle.sn_exchange.specs.Resending.{register_by, register_again, publish_by, publish_again, resend_in, resend_if}
-use Rattle.sn_deliver.specs.Acknowledging.{entry_published, forgotten, puback_of, put_awaiting, awaiting, awaiting_pubrec, pubrec_again, pubrec_of, pubcomp_of, registered, regack_of, acknowledge}
+use Rattle.sn_deliver.specs.Acknowledging.{entry_published, forgotten, puback_of, put_awaiting, awaiting, awaiting_pubrec, pubrec_again, pubrec_of, pubcomp_of, id_known, regack_of, acknowledge}
 use Rattle.sn_tables.specs.Topics.{topic_named}
 use Rattle.sn_exchange.specs.Following.{peer_at, followed_by, followed_for, followed, deliver_next}
-use Rattle.sn_deliver.specs.Serving.{publish_of, publish_in_at, pubrel_of, ack_of}
+use Rattle.sn_deliver.specs.Serving.{publish_of, publish_in_at, pubrel_of, ack_row}
 use Rattle.sn_deliver.specs.Waking.{claimed, has_nothing, woken_by, woken_if, woken, wake_of, wake}
 use Rattle.sn_deliver.specs.Steps.{row_for, step}
 use Rattle.sn_tick.specs.Expiry.{under_way, is_expired, expiry_acked, expire_all}
 use Rattle.sn_tick.specs.Due.{elapsed, first_due}
-use Rattle.sn_tick.specs.Ticking.{dialog_ended, dialogs_ended, needs_timer, timer_begun, cleaned, may_advertise, advertised, will_puts, lost, plan_due, plan_if_due, tick}
+use Rattle.sn_tick.specs.Ticking.{dialog_ended, dialogs_ended, needs_timer, timer_begun, begin_tick, may_advertise, advertised, will_puts, lost, plan_due, plan_if_due, tick}
 use Rattle.step_laws.proofs.Keeping.{fold_keeps}
 
 -- the draft makes nothing
@@ -195,14 +195,14 @@ pub followed_for_puts : (predefined : Entries) (seen : Seen) (a : Addr) (now : �
 followed_for_puts predefined seen a now d follow client = ap (λ (m : Made). m.0) (followed_for_made predefined seen a now d follow client)
 
 -- a draft that makes the same is as well apart
-apart_as : (d e : Drafted) → SameMade e d → IsApart d → IsApart e
+apart_as : (d e : Drafted) → SameMade e d → PutsApart d → PutsApart e
 apart_as d e same h = record {
   one_each = subst (λ (m : Made). IsOneEach m.0) (sym same) h.one_each;
   alone = subst (λ (m : Made). (m.1 ≡ []) ⊎ (m.0 ≡ [])) (sym same) h.alone;
 }
 
 -- the plan of a row with what follows it
-pub next-drafted : (g : ℕ) (predefined : Entries) (seen : Seen) (a : Addr) (now : ℕ) (row : Row) (plan : Plan) → IsApart row.draft → deliver_next g predefined seen a now row ≡ Some plan → IsOfDraft g seen plan
+pub next-drafted : (g : ℕ) (predefined : Entries) (seen : Seen) (a : Addr) (now : ℕ) (row : Row) (plan : Plan) → PutsApart row.draft → deliver_next g predefined seen a now row ≡ Some plan → IsOfDraft g seen plan
 next-drafted g predefined seen a now row plan apart e =
     row-drafted g seen (followed predefined seen a now row) plan
     (apart_as row.draft (followed_for predefined seen a now row.draft row.follow row.client) (followed_for_made predefined seen a now row.draft row.follow row.client) apart) e
@@ -277,16 +277,16 @@ module _ (seen : Seen) (topic : List ℕ) (qos : ℕ) (body : List ℕ) where
 
 -- ---- the rows of publications
 
-no_message : (d : Drafted) → d.puts ≡ [] → IsApart d
+no_message : (d : Drafted) → d.puts ≡ [] → PutsApart d
 no_message d h = record { one_each = subst IsOneEach (sym h) tt; alone = inr h }
 
-none_one : (d : Drafted) → MakesNone d → IsApart d
+none_one : (d : Drafted) → MakesNone d → PutsApart d
 none_one d h = no_message d (no_puts d h)
 
-none_row : (row : Row) → MakesNone row.draft → IsApart row.draft
+none_row : (row : Row) → MakesNone row.draft → PutsApart row.draft
 none_row row h = none_one row.draft h
 
-choose_one : (b : Bool) (x y : Drafted) → IsApart x → IsApart y → IsApart (if b then x else y)
+choose_one : (b : Bool) (x y : Drafted) → PutsApart x → PutsApart y → PutsApart (if b then x else y)
 choose_one true x y h k = h
 choose_one false x y h k = k
 
@@ -298,35 +298,35 @@ module _ (S : List Op) where
   will_one c None = tt
   will_one c (Some will) = among_each (seen_of S) will.topic will.qos will.message (filter (is_another c) (clients S)) (filter_apart (is_another c) (clients S) (clients_apart S))
 
-  twice_one : (asked : Bool) (a : Addr) (s : Session) (topic msg_id : ℕ) (body name : List ℕ) → IsApart (spread_twice (seen_of S) asked a s topic msg_id body name)
+  twice_one : (asked : Bool) (a : Addr) (s : Session) (topic msg_id : ℕ) (body name : List ℕ) → PutsApart (publish_at_2 (seen_of S) asked a s topic msg_id body name)
   twice_one asked a s topic msg_id body name =
       choose_one (is_received msg_id s.received) _ _ (record { one_each = tt; alone = inl refl })
       (choose_one (id_has_no_room msg_id s.received) _ _ (record { one_each = tt; alone = inl refl }) (record { one_each = puts_one name 2 body; alone = inl refl }))
 
-  publish_at_one : (asked : Bool) (a : Addr) (s : Session) (topic msg_id : ℕ) (body name : List ℕ) (qos : Qos) → IsApart (publish_at (seen_of S) asked a s topic msg_id body name qos)
+  publish_at_one : (asked : Bool) (a : Addr) (s : Session) (topic msg_id : ℕ) (body name : List ℕ) (qos : Qos) → PutsApart (publish_at (seen_of S) asked a s topic msg_id body name qos)
   publish_at_one asked a s topic msg_id body name levels.Zero = record { one_each = puts_one name 0 body; alone = inl refl }
   publish_at_one asked a s topic msg_id body name levels.One = record { one_each = puts_one name 1 body; alone = inl refl }
   publish_at_one asked a s topic msg_id body name levels.Two = twice_one asked a s topic msg_id body name
   publish_at_one asked a s topic msg_id body name levels.MinusOne = record { one_each = puts_one name 0 body; alone = inl refl }
 
-  publish_meant_one : (asked : Bool) (a : Addr) (s : Session) (topic msg_id : ℕ) (body : List ℕ) (qos : Qos) (meant : Meant) → IsApart (publish_meant (seen_of S) asked a s topic msg_id body qos meant)
+  publish_meant_one : (asked : Bool) (a : Addr) (s : Session) (topic msg_id : ℕ) (body : List ℕ) (qos : Qos) (meant : Meant) → PutsApart (publish_meant (seen_of S) asked a s topic msg_id body qos meant)
   publish_meant_one asked a s topic msg_id body qos (Refused code) = record { one_each = tt; alone = inl refl }
   publish_meant_one asked a s topic msg_id body qos (Topic name) = publish_at_one asked a s topic msg_id body name qos
 
-  spread_meant_one : (asked : Bool) (body : List ℕ) (meant : Meant) → IsApart (spread_meant (seen_of S) asked body meant)
+  spread_meant_one : (asked : Bool) (body : List ℕ) (meant : Meant) → PutsApart (spread_meant (seen_of S) asked body meant)
   spread_meant_one asked body (Refused code) = record { one_each = tt; alone = inl refl }
   spread_meant_one asked body (Topic name) = record { one_each = puts_one name 0 body; alone = inl refl }
 
-  heard_one : (c : List ℕ) (now : ℕ) (d : Drafted) → IsApart d → IsApart (moved (Heard c now) d)
+  heard_one : (c : List ℕ) (now : ℕ) (d : Drafted) → PutsApart d → PutsApart (moved (Heard c now) d)
   heard_one c now d h = record { one_each = h.one_each; alone = h.alone }
 
-  publish_of_one : (predefined : Entries) (a : Addr) (bound : Option (List ℕ)) (bits topic msg_id : ℕ) (body : List ℕ) (now : ℕ) → IsApart (publish_of predefined (seen_of S) a bound bits topic msg_id body now).draft
+  publish_of_one : (predefined : Entries) (a : Addr) (bound : Option (List ℕ)) (bits topic msg_id : ℕ) (body : List ℕ) (now : ℕ) → PutsApart (publish_of predefined (seen_of S) a bound bits topic msg_id body now).draft
   publish_of_one predefined a None bits topic msg_id body now = record { one_each = tt; alone = inl refl }
   publish_of_one predefined a (Some c) bits topic msg_id body now =
       heard_one c now _
       (publish_meant_one (retain_asked bits) a (session_of (seen_of S) c) topic msg_id body (qos_of bits) (publication_meant predefined (session_of (seen_of S) c) bits topic body))
 
-  publish_in_one : (predefined : Entries) (local : Local) (a : Addr) (bits topic msg_id : ℕ) (body : List ℕ) (now : ℕ) (qos : Qos) → IsApart (publish_in_at predefined (seen_of S) local a bits topic msg_id body now qos).draft
+  publish_in_one : (predefined : Entries) (local : Local) (a : Addr) (bits topic msg_id : ℕ) (body : List ℕ) (now : ℕ) (qos : Qos) → PutsApart (publish_in_at predefined (seen_of S) local a bits topic msg_id body now qos).draft
   publish_in_one predefined local a bits topic msg_id body now levels.MinusOne = spread_meant_one (retain_asked bits) body (publication_meant predefined empty_session bits topic body)
   publish_in_one predefined local a bits topic msg_id body now levels.Zero = publish_of_one predefined a (client_at a local.bindings) bits topic msg_id body now
   publish_in_one predefined local a bits topic msg_id body now levels.One = publish_of_one predefined a (client_at a local.bindings) bits topic msg_id body now
@@ -356,7 +356,7 @@ pubcomp_puts : (s : Session) (x : Option Exchange) → MakesNone (pubcomp_of s x
 pubcomp_puts s None = refl
 pubcomp_puts s (Some x) = refl
 
-registered_puts : (s : Session) (entry : Option TopicEntry) → MakesNone (registered s entry)
+registered_puts : (s : Session) (entry : Option TopicEntry) → MakesNone (id_known s entry)
 registered_puts s None = refl
 registered_puts s (Some entry) = refl
 
@@ -376,7 +376,7 @@ pub pubrel_of_made : (seen : Seen) (a : Addr) (bound : Option (List ℕ)) (msg_i
 pubrel_of_made seen a None msg_id now = refl
 pubrel_of_made seen a (Some c) msg_id now = changed_puts (release (session_of seen c) msg_id) nothing
 
-pub ack_of_made : (predefined : Entries) (seen : Seen) (a : Addr) (bound : Option (List ℕ)) (frame : Frame) (now : ℕ) → MakesNone (ack_of predefined seen a bound frame now).draft
+pub ack_of_made : (predefined : Entries) (seen : Seen) (a : Addr) (bound : Option (List ℕ)) (frame : Frame) (now : ℕ) → MakesNone (ack_row predefined seen a bound frame now).draft
 ack_of_made predefined seen a None frame now = refl
 ack_of_made predefined seen a (Some c) frame now = acknowledge_puts predefined (peer_at a c now) (session_of seen c) (seen.of c).pending frame
 
@@ -403,7 +403,7 @@ wake_of_puts : (g : ℕ) (seen : Seen) (a : Addr) (bound : Option (List ℕ)) (n
 wake_of_puts g seen a None now = refl
 wake_of_puts g seen a (Some c) now = woken_if_puts g a c (seen.of c) now (seen.of c).session
 
-heard_none : (bound : Option (List ℕ)) (now : ℕ) (row : Row) → MakesNone row.draft → MakesNone (heard_row bound now row).draft
+heard_none : (bound : Option (List ℕ)) (now : ℕ) (row : Row) → MakesNone row.draft → MakesNone (row_with_timer bound now row).draft
 heard_none None now row h = h
 heard_none (Some c) now row h = h
 
@@ -414,7 +414,7 @@ wake_made g seen local a c now =
 
 -- ---- each row has at most one message a client
 
-row_one : (g : ℕ) (predefined : Entries) (S : List Op) (local : Local) (a : Addr) (frame : Frame) (now : ℕ) → IsApart (row_for g predefined (seen_of S) local a frame now).draft
+row_one : (g : ℕ) (predefined : Entries) (S : List Op) (local : Local) (a : Addr) (frame : Frame) (now : ℕ) → PutsApart (row_for g predefined (seen_of S) local a frame now).draft
 row_one g predefined S local a (frames.Connect flags protocol duration client) now = none_row (row_for g predefined (seen_of S) local a (frames.Connect flags protocol duration client) now) (connect-made (seen_of S) local a flags.bits protocol duration client now)
 row_one g predefined S local a (frames.WillTopic will) now = none_row (row_for g predefined (seen_of S) local a (frames.WillTopic will) now) (will_topic-made (seen_of S) a now local will)
 row_one g predefined S local a (frames.WillMsg message) now = none_row (row_for g predefined (seen_of S) local a (frames.WillMsg message) now) (will_msg-made (seen_of S) a now local message)
@@ -434,7 +434,7 @@ row_one g predefined S local a (frames.PingReq client) now = none_row (row_for g
 row_one g predefined S local a frame now = none_row (row_for g predefined (seen_of S) local a frame now) (other-made g local a frame now)
 
 -- a moment makes no message
-lasting_one : (moment : ℕ) (d : Drafted) → IsApart d → IsApart (lasting moment d)
+lasting_one : (moment : ℕ) (d : Drafted) → PutsApart d → PutsApart (lasting moment d)
 lasting_one moment d h = record { one_each = h.one_each; alone = h.alone }
 
 pub step-drafted : (g lifetime : ℕ) (predefined : Entries) (S : List Op) (local : Local) (a : Addr) (frame : Frame) (now : ℕ) (plan : Plan) → step g lifetime predefined (seen_of S) local a frame now ≡ Some plan → IsOfDraft g (seen_of S) plan
@@ -455,7 +455,7 @@ ended_puts now d dialog = choose_same (nat_le 60 (elapsed now dialog.begun)) _ d
 begun_puts : (g : ℕ) (seen : Seen) (timers : List Timer) (now : ℕ) (d : Drafted) (c : List ℕ) → SameMade (timer_begun g seen timers now d c) d
 begun_puts g seen timers now d c = choose_same (needs_timer g timers c (seen.of c)) _ d d refl refl
 
-pub cleaned_made : (g : ℕ) (seen : Seen) (local : Local) (now : ℕ) → SameMade (cleaned g seen local now) nothing
+pub cleaned_made : (g : ℕ) (seen : Seen) (local : Local) (now : ℕ) → SameMade (begin_tick g seen local now) nothing
 cleaned_made g seen local now =
     fold_keeps (timer_begun g seen local.timers now) made (begun_puts g seen local.timers now) seen.all (dialogs_ended now local.dialogs nothing)
     ∙ fold_keeps (dialog_ended now) made (ended_puts now) local.dialogs nothing
@@ -508,7 +508,7 @@ module _ (g : ℕ) (predefined : Entries) (S : List Op) (local : Local) (now : �
 
 pub tick-drafted : (g lifetime advertise : ℕ) (field : List Addr) (predefined : Entries) (S : List Op) (local : Local) (now : ℕ) (plan : Plan) → tick g lifetime advertise field predefined (seen_of S) local now ≡ Some plan → IsOfDraft g (seen_of S) plan
 tick-drafted g lifetime advertise field predefined S local now plan e =
-    let d : Drafted = lasting (expires_at lifetime now) (cleaned g (seen_of S) local now) in
+    let d : Drafted = lasting (expires_at lifetime now) (begin_tick g (seen_of S) local now) in
     either-drafted g predefined S local now plan d (cleaned_made g (seen_of S) local now) (may_advertise advertise field now local.advertised)
     (Some (plan_without (advertised g advertise field now d))) (plan_if_due g predefined (seen_of S) local now d (first_due g (seen_of S) local now (clients S)))
     (without-drafted g (seen_of S) (advertised g advertise field now d) plan)

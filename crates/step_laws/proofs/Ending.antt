@@ -17,7 +17,7 @@ use Rattle.sn_plan.specs.declared.plan.Plan.{Plan}
 use Rattle.sn_local.specs.Advertising.{advertised_change, advertised_after}
 use Rattle.sn_local.specs.Bindings.{bindings_after, is_stamp_of, address_of}
 use Rattle.sn_plan.specs.Drafts.{Drafted, lasting}
-use Rattle.sn_plan.specs.Flush.{AreFlush}
+use Rattle.sn_plan.specs.Flush.{HaveNoGap}
 use Rattle.sn_local.specs.Locals.{Local, after_all}
 use Rattle.sn_local.specs.Lifetimes.{expires_at}
 use Rattle.sn_plan.specs.Others.{can_wake}
@@ -29,7 +29,7 @@ use Rattle.sn_tick.specs.declared.due.Due.{Due}
 use Rattle.sn_tick.specs.declared.due.Due.TheVariants.{Expiry, Loss, Retry, Delivery}
 use Rattle.sn_tick.specs.Expiry.{has_expired}
 use Rattle.sn_tick.specs.Due.{due_session, due_view, due_with, or_later, first_due}
-use Rattle.sn_tick.specs.Ticking.{cleaned, may_advertise, advertised_to, advertised, plan_due, plan_if_due, tick}
+use Rattle.sn_tick.specs.Ticking.{begin_tick, may_advertise, advertised_to, advertised, plan_due, plan_if_due, tick}
 use Rattle.step_laws.specs.Ticks.{Ticked, AreTicks, busy, does_something, set_behind, local_behind}
 use Rattle.sn_tick.proofs.Calm.{none_some, some_none, and_false, one_more}
 use Rattle.step_laws.proofs.Counting.{IsAmong, contains-among, count, weigh, weigh-some}
@@ -117,10 +117,10 @@ one_and m n h = omega arith
 
 module _ (g lifetime advertise : ℕ) (field : List Addr) (predefined : Entries) (now : ℕ) (S : List Op) (local : Local) where
   abbrev first : Drafted
-  first = lasting (expires_at lifetime now) (cleaned g (seen_of S) local now)
+  first = lasting (expires_at lifetime now) (begin_tick g (seen_of S) local now)
 
   clean : IsClean now local first
-  clean = lasting-clean now local (expires_at lifetime now) (cleaned g (seen_of S) local now) (cleaned-clean now local g (seen_of S))
+  clean = lasting-clean now local (expires_at lifetime now) (begin_tick g (seen_of S) local now) (cleaned-clean now local g (seen_of S))
 
   abbrev left_after : Plan → List Op → ℕ
   left_after plan delta = work g advertise field now (S ++ delta) (after_all local plan.local)
@@ -154,7 +154,7 @@ module _ (g lifetime advertise : ℕ) (field : List Addr) (predefined : Entries)
       (up_yet g now S delta none local first.local rest_still advertise field) (still_due g now S delta none local first.local rest_still advertise field)
       clean.kept.advertised
 
-  client_lowers : AreFlush g S → (plan : Plan) (delta : List Op) → Same delta plan.ops → (c : List ℕ) (reason : Due) → IsAmong c (clients S) → due_with g (seen_of S) local now c ≡ Some reason
+  client_lowers : HaveNoGap g S → (plan : Plan) (delta : List Op) → Same delta plan.ops → (c : List ℕ) (reason : Due) → IsAmong c (clients S) → due_with g (seen_of S) local now c ≡ Some reason
       → plan_due g predefined (seen_of S) local now first c reason ≡ Some plan → left_after plan delta < left_before
   client_lowers flush plan delta same c Expiry among due e =
       expired-lowers g advertise field predefined now S local first clean c among (flush c) plan delta same due e
@@ -168,7 +168,7 @@ module _ (g lifetime advertise : ℕ) (field : List Addr) (predefined : Entries)
   abbrev Lowers : Bool → Plan → List Op → Type 0
   Lowers does plan delta = left_after plan delta + (if does then 1 else 0) ≤ left_before
 
-  by_cases : AreFlush g S → (plan : Plan) (delta : List Op) → Same delta plan.ops → (time : Bool) → may_advertise advertise field now local.advertised ≡ time
+  by_cases : HaveNoGap g S → (plan : Plan) (delta : List Op) → Same delta plan.ops → (time : Bool) → may_advertise advertise field now local.advertised ≡ time
       → (found : Option (List ℕ × Due)) → IfSome found (λ one. IsAmong one.0 (clients S) × (due_with g (seen_of S) local now one.0 ≡ Some one.1))
       → (if time then Some (plan_without (advertised g advertise field now first)) else plan_if_due g predefined (seen_of S) local now first found) ≡ Some plan
       → Lowers (time || is_some found) plan delta
@@ -186,7 +186,7 @@ module _ (g lifetime advertise : ℕ) (field : List Addr) (predefined : Entries)
   by_cases flush plan delta same false is (Some found) known e =
       at_once (left_after plan delta) left_before (client_lowers flush plan delta same found.0 found.1 known.0 known.1 e)
 
-  lowers : AreFlush g S → (plan : Plan) (delta : List Op) → Same delta plan.ops → tick g lifetime advertise field predefined (seen_of S) local now ≡ Some plan
+  lowers : HaveNoGap g S → (plan : Plan) (delta : List Op) → Same delta plan.ops → tick g lifetime advertise field predefined (seen_of S) local now ≡ Some plan
       → Lowers (does_something g advertise field (seen_of S) local now) plan delta
   lowers flush plan delta same e =
       by_cases flush plan delta same (may_advertise advertise field now local.advertised) refl (first_due g (seen_of S) local now (clients S))
@@ -282,7 +282,7 @@ module _ (g advertise : ℕ) (field : List Addr) (now : ℕ) where
 
 module _ (g lifetime advertise : ℕ) (field : List Addr) (predefined : Entries) (now : ℕ) where
   -- what is done and what is left is no more than there was
-  all_at_most : (ticks : List Ticked) (S : List Op) (local : Local) → AreFlush g S → AreTicks g lifetime advertise field predefined now S local ticks
+  all_at_most : (ticks : List Ticked) (S : List Op) (local : Local) → HaveNoGap g S → AreTicks g lifetime advertise field predefined now S local ticks
       → busy g advertise field now S local ticks + work g advertise field now (set_behind S ticks) (local_behind local ticks) ≤ work g advertise field now S local
   all_at_most [] S local flush h = at_zero (work g advertise field now S local)
   all_at_most (t ∷ rest) S local flush h =
@@ -293,11 +293,11 @@ module _ (g lifetime advertise : ℕ) (field : List Addr) (predefined : Entries)
       (step-flush g S t.plan (tick-drafted g lifetime advertise field predefined S local now t.plan h.0) t.delta h.1 flush) h.2)
       (lowers g lifetime advertise field predefined now S local flush t.plan t.delta h.1 h.0)
 
-  all_of_it : (S : List Op) (local : Local) (ticks : List Ticked) → AreFlush g S → AreTicks g lifetime advertise field predefined now S local ticks
+  all_of_it : (S : List Op) (local : Local) (ticks : List Ticked) → HaveNoGap g S → AreTicks g lifetime advertise field predefined now S local ticks
       → busy g advertise field now S local ticks + work g advertise field now (set_behind S ticks) (local_behind local ticks) ≤ 3 * ((length (clients S) + 1) * (length (clients S) + 1))
   all_of_it S local ticks flush h = le_trans (all_at_most ticks S local flush h) (work-whole g advertise field now S local)
 
-  pub ticks-bound : (S : List Op) (local : Local) (ticks : List Ticked) → AreFlush g S → AreTicks g lifetime advertise field predefined now S local ticks
+  pub ticks-bound : (S : List Op) (local : Local) (ticks : List Ticked) → HaveNoGap g S → AreTicks g lifetime advertise field predefined now S local ticks
       → busy g advertise field now S local ticks ≤ 3 * ((length (clients S) + 1) * (length (clients S) + 1))
   ticks-bound S local ticks flush h =
       le_trans (le-add_right (busy g advertise field now S local ticks) (work g advertise field now (set_behind S ticks) (local_behind local ticks))) (all_of_it S local ticks flush h)
@@ -326,7 +326,7 @@ module _ (g lifetime advertise : ℕ) (field : List Addr) (predefined : Entries)
       subst (λ b. length (t ∷ rest) ≤ (if b then 1 else 0) + busy g advertise field now (S ++ t.delta) (after_all local t.plan.local) rest) (sym here)
       (one_and (length rest) (busy g advertise field now (S ++ t.delta) (after_all local t.plan.local) rest) (all_busy (S ++ t.delta) (after_all local t.plan.local) rest h.2 is))
 
-  pub ticks-end : (S : List Op) (local : Local) (ticks : List Ticked) → AreFlush g S → AreTicks g lifetime advertise field predefined now S local ticks
+  pub ticks-end : (S : List Op) (local : Local) (ticks : List Ticked) → HaveNoGap g S → AreTicks g lifetime advertise field predefined now S local ticks
       → 3 * ((length (clients S) + 1) * (length (clients S) + 1)) ≤ length ticks
       → does_something g advertise field (seen_of (set_behind S ticks)) (local_behind local ticks) now ≡ false
   ticks-end S local ticks flush h long =

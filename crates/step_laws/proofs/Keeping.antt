@@ -29,11 +29,11 @@ use Rattle.sn_exchange.specs.declared.delivery.ToldId.{ToldId}
 use Rattle.sn_exchange.specs.Forms.{form_of, publication}
 use Rattle.sn_publish.specs.Publishing.{posted}
 use Rattle.sn_exchange.specs.Exchanges.{put_left, message_of, open_exchange, is_served, is_awake}
-use Rattle.sn_exchange.specs.Delivery.{Stop, id_to_tell, begun, register_first, deliver_by, none_left, and_then, deliver, deliver_left, then_deliver}
+use Rattle.sn_exchange.specs.Delivery.{Stop, id_to_tell, exchange_begun, register_first, deliver_by, none_left, and_then, deliver, deliver_left, then_deliver}
 use Rattle.sn_exchange.specs.Resending.{publish_by, publish_again, resend_in}
 use Rattle.sn_tick.specs.Due.{elapsed, first_due}
-use Rattle.sn_tick.specs.Ticking.{dialog_ended, dialogs_ended, needs_timer, timer_begun, cleaned, advertised, plan_if_due}
-use Rattle.sn_session.specs.Session.{changed as changed_by}
+use Rattle.sn_tick.specs.Ticking.{dialog_ended, dialogs_ended, needs_timer, timer_begun, begin_tick, advertised, plan_if_due}
+use Rattle.sn_session.specs.Session.{session_changed}
 use Rattle.step_laws.proofs.Receiving.{added, stays-received}
 use Rattle.step_laws.specs.Laws.{IsDoneWith, IsOfOneDone, DeliveryKeeps, PutsOnce, ResentWithDup, TickIsQuiet}
 
@@ -69,7 +69,7 @@ puts-once = record {
       choose_last (is_received msg_id s.received) (id_has_no_room msg_id s.received) (sent a (frames.PubRec msg_id) nothing) (sent a (frames.PubAck topic msg_id 1) nothing)
       (sent a (frames.PubRec msg_id) (changed (Received msg_id) (posted seen asked name 2 body)))
       (λ d. is_received msg_id (session_after s d).received ≡ true) fresh room
-      (if_room (id_has_no_room msg_id s.received) s (changed_by s (Received msg_id)) msg_id room (added msg_id s.received));
+      (if_room (id_has_no_room msg_id s.received) s (session_changed s (Received msg_id)) msg_id room (added msg_id s.received));
   stays = stays-received;
   repeated = λ seen asked a s topic msg_id body name received.
       choose_made (is_received msg_id s.received) (sent a (frames.PubRec msg_id) nothing)
@@ -114,14 +114,14 @@ dialog_sends now d dialog = choose_sends (nat_le 60 (elapsed now dialog.begun)) 
 timer_sends : (g : ℕ) (seen : Seen) (timers : List Timer) (now : ℕ) (d : Drafted) (c : List ℕ) → (timer_begun g seen timers now d c).sends ≡ d.sends
 timer_sends g seen timers now d c = choose_sends (needs_timer g timers c (seen.of c)) (moved (Heard c now) d) d refl
 
-cleaned_sends : (g : ℕ) (seen : Seen) (local : Local) (now : ℕ) → (cleaned g seen local now).sends ≡ []
+cleaned_sends : (g : ℕ) (seen : Seen) (local : Local) (now : ℕ) → (begin_tick g seen local now).sends ≡ []
 cleaned_sends g seen local now =
     fold_keeps (timer_begun g seen local.timers now) (λ d. d.sends) (timer_sends g seen local.timers now) seen.all (dialogs_ended now local.dialogs nothing)
     ∙ fold_keeps (dialog_ended now) (λ d. d.sends) (dialog_sends now) local.dialogs nothing
 
 pub tick-quiet : TickIsQuiet
 tick-quiet g lifetime advertise field predefined seen local now no_advertise no_client =
-    let first : Drafted = lasting (expires_at lifetime now) (cleaned g seen local now) in (
+    let first : Drafted = lasting (expires_at lifetime now) (begin_tick g seen local now) in (
       plan_without first,
       ap (λ (b : Bool). if b then Some (plan_without (advertised g advertise field now first)) else plan_if_due g predefined seen local now first (first_due g seen local now seen.all)) no_advertise
           ∙ ap (plan_if_due g predefined seen local now first) no_client,
@@ -176,7 +176,7 @@ module _ (predefined : Entries) (peer : Peer) (s : Session) where
   form_stays put None d = register_stays put (id_to_tell s put.topic) d
   form_stays put (Some form) d =
       choose_stop_stays (put.qos == 0) (false, acked (name_of put) (sent peer.address (publication false put 0 form) d))
-      (true, begun peer s put Published (publication false put s.next_id form) d) d
+      (true, exchange_begun peer s put Published (publication false put s.next_id form) d) d
       (λ m there. one_more_sent d m (record { to = peer.address; bytes = spelling (publication false put 0 form) }) there)
       (λ m there. one_more_sent d m (record { to = peer.address; bytes = spelling (publication false put s.next_id form) }) there)
 
@@ -234,7 +234,7 @@ module _ (predefined : Entries) (peer : Peer) (s : Session) where
   form_keeps put rest d name None none there = register_keeps put rest d name (id_to_tell s put.topic) none refl there
   form_keeps put rest d name (Some form) some there =
       publish_keeps put rest d name form (put.qos == 0) (acked (name_of put) (sent peer.address (publication false put 0 form) d))
-      (begun peer s put Published (publication false put s.next_id form) d) some refl refl refl there
+      (exchange_begun peer s put Published (publication false put s.next_id form) d) some refl refl refl there
 
   -- what is done with by some frames is so by more
   done_more : (put : Put) (old new : List Send) → ((m : Send) → Contains old m → Contains new m) → IsDoneWith predefined peer s put old → IsDoneWith predefined peer s put new

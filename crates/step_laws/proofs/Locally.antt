@@ -30,7 +30,7 @@ use Rattle.sn_exchange.specs.Delivery.{Stop, id_to_tell, register_first, deliver
 use Rattle.sn_exchange.specs.Resending.{register_by, register_again, publish_by, publish_again, resend_in, resend_if}
 use Rattle.sn_exchange.specs.Following.{peer_at}
 use Rattle.sn_tick.specs.Due.{elapsed}
-use Rattle.sn_tick.specs.Ticking.{dialog_ended, needs_timer, timer_begun, cleaned}
+use Rattle.sn_tick.specs.Ticking.{dialog_ended, needs_timer, timer_begun, begin_tick}
 use Rattle.step_laws.proofs.Timing.{AreKept, kept-ended, kept-heard, kept-sent, kept-resent, kept-retried}
 
 -- ---- what follows a row
@@ -156,7 +156,7 @@ module _ (now : ℕ) (local : Local) where
       clean_moved (Heard c now) d h (kept-heard now local Anyone d.local h.kept c (none_is (timer_of c local.timers) parts.1)))
       h
 
-  pub cleaned-clean : (g : ℕ) (seen : Seen) → IsClean now local (cleaned g seen local now)
+  pub cleaned-clean : (g : ℕ) (seen : Seen) → IsClean now local (begin_tick g seen local now)
   cleaned-clean g seen =
       fold_has (IsClean now local) (timer_begun g seen local.timers now) (timer_clean g seen) seen.all (fold (dialog_ended now) nothing local.dialogs)
       (fold_has (IsClean now local) (dialog_ended now) dialog_clean local.dialogs nothing nothing_clean)

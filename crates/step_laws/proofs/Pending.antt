@@ -15,7 +15,7 @@ use Rattle.rep_model.proofs.Lookup.{find-in_order, is_sorted-in_order}
 use Rattle.rep_model.proofs.Readers.{put_total, put_exact}
 use Rattle.rep_model.proofs.Waiting.{AreUnderNames, waiting_entries, waiting_under, waiting_sorted, waiting_found}
 use Rattle.sn_exchange.specs.Exchanges.{same_name, is_done, left}
-use Rattle.step_laws.specs.Laws.{AreApart}
+use Rattle.step_laws.specs.Laws.{AreNamedApart}
 
 -- ---- names that are all different
 
@@ -48,7 +48,7 @@ below_apart name (e ∷ es) below all = (
   below_apart name es (second (is_lt (put_cmp name e.0)) (below_all put_cmp name es) below) all.1,
 )
 
-sorted_apart : (es : List ((ℕ × ℕ) × Put)) → T (is_sorted put_cmp es) → AreUnderNames es → AreApart (map (λ e. e.1) es)
+sorted_apart : (es : List ((ℕ × ℕ) × Put)) → T (is_sorted put_cmp es) → AreUnderNames es → AreNamedApart (map (λ e. e.1) es)
 sorted_apart [] sorted all = tt
 sorted_apart (e ∷ es) sorted all = (
   subst (λ name. AllByRecursion (λ (other : Put). same_name name (name_of other) ≡ false) (map (λ e. e.1) es)) all.0
@@ -57,7 +57,7 @@ sorted_apart (e ∷ es) sorted all = (
 )
 
 -- the messages that wait have names that are all different
-pub pending-apart : (c : List ℕ) (S : List Op) → AreApart (pending c S)
+pub pending-apart : (c : List ℕ) (S : List Op) → AreNamedApart (pending c S)
 pending-apart c S = sorted_apart (waiting_entries c S) (waiting_sorted c S) (waiting_under c S)
 
 -- ---- what waits, by the look-up of names

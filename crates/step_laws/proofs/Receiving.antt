@@ -5,7 +5,7 @@ use Rattle.std.specs.Cmp.{nat_cmp_total, tied_itself}
 use Rattle.std.proofs.lemmas.Cmp.{ranked}
 use Rattle.sn_tables.specs.Tables.{by_order, with_entry}
 use Rattle.sn_tables.specs.Received.{is_received, with_received, without_received}
-use Rattle.sn_session.specs.Session.{applied, is_full, changed as changed_by}
+use Rattle.sn_session.specs.Session.{applied, is_full, session_changed}
 use Rattle.sn_session.specs.declared.session.Session.{Session}
 use Rattle.sn_session.specs.declared.change.SessionOp.{SessionOp}
 use Rattle.sn_session.specs.declared.change.SessionOp.TheVariants.{Take, Presence, Register, Subscribe, Unsubscribe, WillTopic, WillMsg, Received, Released, Outbound}
@@ -77,11 +77,11 @@ choose_kept false id x y h k = k
 pub stays-received : (s : Session) (change : SessionOp) (id : ℕ) → ends_received id change ≡ false → is_received id s.received ≡ true → is_received id (applied s change).received ≡ true
 stays-received s (Take taken) id other h = absurd (true≢false other)
 stays-received s (Presence presence duration) id other h = h
-stays-received s (Register topic name known) id other h = choose_kept (is_full s (Register topic name known)) id s (changed_by s (Register topic name known)) h h
-stays-received s (Subscribe asked qos) id other h = choose_kept (is_full s (Subscribe asked qos)) id s (changed_by s (Subscribe asked qos)) h h
+stays-received s (Register topic name known) id other h = choose_kept (is_full s (Register topic name known)) id s (session_changed s (Register topic name known)) h h
+stays-received s (Subscribe asked qos) id other h = choose_kept (is_full s (Subscribe asked qos)) id s (session_changed s (Subscribe asked qos)) h h
 stays-received s (Unsubscribe asked) id other h = h
 stays-received s (WillTopic asked) id other h = h
 stays-received s (WillMsg message) id other h = h
-stays-received s (Received n) id other h = choose_kept (is_full s (Received n)) id s (changed_by s (Received n)) h (kept_by_adding n id s.received h)
+stays-received s (Received n) id other h = choose_kept (is_full s (Received n)) id s (session_changed s (Received n)) h (kept_by_adding n id s.received h)
 stays-received s (Released n) id other h = kept_by_release n id s.received other h
 stays-received s (Outbound exchange next) id other h = h

@@ -13,12 +13,12 @@ use Rattle.sn_tables.specs.declared.topics.TopicEntry.{TopicEntry}
 use Rattle.sn_session.specs.declared.change.SessionOp.TheVariants.{Register}
 use Rattle.sn_tables.specs.Tables.{is_table_full, by_order}
 use Rattle.sn_tables.specs.Topics.{topic_cmp, topic_of, topic_named, with_topic, free_id, least_unused}
-use Rattle.sn_session.specs.Session.{applied, changed as changed_session}
+use Rattle.sn_session.specs.Session.{applied, session_changed}
 use Rattle.rep_op.specs.declared.op.Put.{Put}
 use Rattle.rep_op.specs.Orders.{name_of}
 use Rattle.row_laws.proofs.Given.{fits}
 use Rattle.sn_exchange.specs.Exchanges.{same_name, is_done, is_left, left, put_named, put_left, message_of, is_open_in, if_open, open_exchange}
-use Rattle.step_laws.specs.Laws.{AreApart}
+use Rattle.step_laws.specs.Laws.{AreNamedApart}
 use Rattle.sn_tick.proofs.Calm.{none_some}
 
 -- ---- what is left
@@ -57,12 +57,12 @@ all_left name (put ∷ rest) h =
     ap (λ t. cond t (put ∷ left (name ∷ []) rest) (left (name ∷ []) rest)) (one_left name put ∙ ap not h.0) ∙ ap (λ xs. put ∷ xs) (all_left name rest h.1)
 
 -- after the first message the others are left
-pub rest_left : (put : Put) (rest : List Put) → AreApart (put ∷ rest) → left (name_of put ∷ []) (put ∷ rest) ≡ rest
+pub rest_left : (put : Put) (rest : List Put) → AreNamedApart (put ∷ rest) → left (name_of put ∷ []) (put ∷ rest) ≡ rest
 rest_left put rest apart =
     ap (λ t. cond t (put ∷ left (name_of put ∷ []) rest) (left (name_of put ∷ []) rest)) (one_left (name_of put) put ∙ ap not (same_name-itself (name_of put)))
     ∙ all_left (name_of put) rest apart.0
 
-pub next_left : (acks : List (ℕ × ℕ)) (pending : List Put) (put : Put) (rest : List Put) → AreApart (put ∷ rest) → left acks pending ≡ put ∷ rest
+pub next_left : (acks : List (ℕ × ℕ)) (pending : List Put) (put : Put) (rest : List Put) → AreNamedApart (put ∷ rest) → left acks pending ≡ put ∷ rest
     → left (acks ++ name_of put ∷ []) pending ≡ rest
 next_left acks pending put rest apart e = left-more acks (name_of put) pending ∙ ap (left (name_of put ∷ [])) e ∙ rest_left put rest apart
 
@@ -123,6 +123,6 @@ free_room true n id e = absurd (none_some id e)
 free_room false n id e = refl
 
 -- the session with a free id for a name
-pub registered : (r : Session) (id : ℕ) (name : List ℕ) → free_id r.topics ≡ Some id → applied r (Register id name false) ≡ changed_session r (Register id name false)
+pub registered : (r : Session) (id : ℕ) (name : List ℕ) → free_id r.topics ≡ Some id → applied r (Register id name false) ≡ session_changed r (Register id name false)
 registered r id name e =
     fits r (Register id name false) (not_full (is_table_full r.topics) (is_none (topic_of id r.topics)) (free_room (is_table_full r.topics) (least_unused 1 r.topics) id e))

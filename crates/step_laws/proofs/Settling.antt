@@ -13,7 +13,7 @@ use Rattle.sn_tables.specs.declared.topics.TopicEntry.{TopicEntry}
 use Rattle.sn_session.specs.declared.change.SessionOp.{SessionOp}
 use Rattle.sn_session.specs.declared.change.SessionOp.TheVariants.{Presence as SetPresence, Register, Outbound}
 use Rattle.sn_tables.specs.Topics.{topic_named, free_id}
-use Rattle.sn_session.specs.Session.{applied, changed as changed_session}
+use Rattle.sn_session.specs.Session.{applied, session_changed}
 use Rattle.sn_frame.specs.declared.frame.Frame.{Frame}
 use Rattle.sn_frame.specs.declared.frame.Frame.TheVariants as frames
 use Rattle.rep_op.specs.declared.op.Put.{Put}
@@ -35,11 +35,11 @@ use Rattle.sn_exchange.specs.declared.form.Form.{Form}
 use Rattle.sn_exchange.specs.declared.peer.Peer.{Peer}
 use Rattle.sn_exchange.specs.Forms.{form_of, form_again, publication}
 use Rattle.sn_exchange.specs.Exchanges.{left, put_left, message_of, is_open_in, open_exchange, is_served, is_awake}
-use Rattle.sn_exchange.specs.Delivery.{next_after, entry_or_fresh, begun, register_first, deliver_by, and_then, deliver, deliver_left}
+use Rattle.sn_exchange.specs.Delivery.{next_after, entry_or_fresh, exchange_begun, register_first, deliver_by, and_then, deliver, deliver_left}
 use Rattle.sn_exchange.specs.Resending.{given_up, register_by, publish_by, resend_in, resend_if}
 use Rattle.sn_tick.specs.Due.{elapsed, is_overdue, due_exchange, due_by, due_at, due_session}
 use Rattle.sn_tick.specs.Ticking.{lost}
-use Rattle.step_laws.specs.Laws.{AreApart, due_after, due_draft, TickSettles}
+use Rattle.step_laws.specs.Laws.{AreNamedApart, due_after, due_draft, TickSettles}
 use Rattle.sn_tick.proofs.Calm.{first_of, second_of, none_some, sent_found, resent_found, retried_found, one_more, sent_rests, resent_rests, sent_calm, resent_calm, retried_calm, calm_alike, calm_asleep, by_unserved, by_rest, by_empty, ends}
 use Rattle.step_laws.proofs.Expiring.{never-expiry}
 use Rattle.step_laws.proofs.Remaining.{left-none, next_left, opens, closed, named_set, registered}
@@ -81,7 +81,7 @@ module _ (predefined : Entries) (peer : Peer) (s : Session) (pending : List Put)
       → is_overdue peer.moment s (timer_of peer.client (timers_after timers d.local)) ≡ false
       → left d.acks pending ≡ put ∷ rest
       → is_open_in (record r { outbound = Some (record { origin = put.origin; seq = put.seq; msg_id = s.next_id; phase = phase }); next_id = next_after s.next_id }) phase (Some put) ≡ true
-      → Settled peer s pending timers (begun peer s put phase frame d)
+      → Settled peer s pending timers (exchange_begun peer s put phase frame d)
   begun_settles d r put rest phase frame so_far presence duration calm waits opened b =
       let x : Exchange = record { origin = put.origin; seq = put.seq; msg_id = s.next_id; phase = phase } in
       let t : Session = record r { outbound = Some x; next_id = next_after s.next_id } in
@@ -116,7 +116,7 @@ module _ (predefined : Entries) (peer : Peer) (s : Session) (pending : List Put)
   record At (r : Session) (put : Put) (rest : List Put) (d : Drafted) : Type 0 where
     before : Before peer s timers r d
     waits : left d.acks pending ≡ put ∷ rest
-    apart : AreApart (put ∷ rest)
+    apart : AreNamedApart (put ∷ rest)
     later : (e : Drafted) → Before peer s timers r e → left e.acks pending ≡ rest → Settled peer s pending timers (deliver predefined peer s rest e)
 
   -- a message that is done with
@@ -142,7 +142,7 @@ module _ (predefined : Entries) (peer : Peer) (s : Session) (pending : List Put)
       (ap (λ topics. is_some (topic_named put.topic topics)) at.before.topics ∙ ap is_some named)
   told_settles r put rest d at None None named is_free = acked_settles r put rest d at
   told_settles r put rest d at None (Some id) named is_free =
-      begun_settles (changed (Register id put.topic false) d) (changed_session r (Register id put.topic false)) put rest Registering (frames.Register id s.next_id put.topic)
+      begun_settles (changed (Register id put.topic false) d) (session_changed r (Register id put.topic false)) put rest Registering (frames.Register id s.next_id put.topic)
       (one_change d.changes r (Register id put.topic false) at.before.so_far ∙ registered r id put.topic (ap free_id at.before.topics ∙ is_free))
       at.before.presence at.before.duration at.before.calm at.waits
       (named_set (record { id = id; name = put.topic; known = false }) r.topics)
@@ -150,7 +150,7 @@ module _ (predefined : Entries) (peer : Peer) (s : Session) (pending : List Put)
   -- a message whose topic has a form
   form_settles : (r : Session) (put : Put) (rest : List Put) (d : Drafted) → At r put rest d → (form : Form) (zero : Bool) → (put.qos == 0) ≡ zero
       → Settled peer s pending timers (and_then (deliver predefined peer s rest)
-      (if zero then (false, acked (name_of put) (sent peer.address (publication false put 0 form) d)) else (true, begun peer s put Published (publication false put s.next_id form) d)))
+      (if zero then (false, acked (name_of put) (sent peer.address (publication false put 0 form) d)) else (true, exchange_begun peer s put Published (publication false put s.next_id form) d)))
   form_settles r put rest d at form true is =
       acked_settles r put rest (sent peer.address (publication false put 0 form) d)
       (record {
@@ -174,7 +174,7 @@ module _ (predefined : Entries) (peer : Peer) (s : Session) (pending : List Put)
   one_settles r put rest d at None = told_settles r put rest d at (topic_named put.topic s.topics) (free_id s.topics) refl refl
   one_settles r put rest d at (Some form) = form_settles r put rest d at form (put.qos == 0) refl
 
-  deliver_settles : (rest : List Put) (d : Drafted) (r : Session) → Before peer s timers r d → left d.acks pending ≡ rest → AreApart rest
+  deliver_settles : (rest : List Put) (d : Drafted) (r : Session) → Before peer s timers r d → left d.acks pending ≡ rest → AreNamedApart rest
       → Settled peer s pending timers (deliver predefined peer s rest d)
   deliver_settles [] d r before waits apart = none_at d r before waits (is_awake s.presence) refl
   deliver_settles (put ∷ rest) d r before waits apart =
@@ -183,10 +183,10 @@ module _ (predefined : Entries) (peer : Peer) (s : Session) (pending : List Put)
       (form_of predefined s put.topic)
 
   -- Delivery of all that wait
-  all_settle : (d : Drafted) (r : Session) → d.acks ≡ [] → Before peer s timers r d → AreApart pending → Settled peer s pending timers (deliver_left predefined peer s pending d)
+  all_settle : (d : Drafted) (r : Session) → d.acks ≡ [] → Before peer s timers r d → AreNamedApart pending → Settled peer s pending timers (deliver_left predefined peer s pending d)
   all_settle d r none before apart =
       let all : left d.acks pending ≡ pending = ap (λ acks. left acks pending) none ∙ left-none pending in
-      deliver_settles (left d.acks pending) d r before refl (subst AreApart (sym all) apart)
+      deliver_settles (left d.acks pending) d r before refl (subst AreNamedApart (sym all) apart)
 
 -- ---- Resend
 
@@ -198,7 +198,7 @@ to_plain : (d : Drafted) → d.changes ≡ [] → d.acks ≡ [] → d ≡ plain 
 to_plain d h k = ap (λ (changes : List SessionOp). record d { changes = changes }) h ∙ ap (λ (acks : List (ℕ × ℕ)). record d { changes = []; acks = acks }) k
 
 module _ (predefined : Entries) (peer : Peer) (s : Session) (pending : List Put) (timers : List Timer) (x : Exchange) (handed : List Posted) (retain : Option Posted) (puts : List NewPut) (moment : ℕ) (sends : List Send) (local : List LocalChange)
-    (is_open : open_exchange s [] pending ≡ Some x) (calm : is_overdue peer.moment s (timer_of peer.client (timers_after timers local)) ≡ false) (apart : AreApart pending) where
+    (is_open : open_exchange s [] pending ≡ Some x) (calm : is_overdue peer.moment s (timer_of peer.client (timers_after timers local)) ≡ false) (apart : AreNamedApart pending) where
   -- a frame that is sent again was just sent
   again_settles : (frame : Frame) → Settled peer s pending timers (moved (Resent peer.client peer.moment) (sent peer.address frame (plain handed retain puts moment sends local)))
   again_settles frame b =
@@ -310,7 +310,7 @@ lost_rests now duration s pending (Some t) None = refl
 lost_rests now duration s pending (Some t) (Some a) = refl
 
 module _ (predefined : Entries) (seen : Seen) (now : ℕ) (c : List ℕ) (timers : List Timer) (a b : Option Addr) (handed : List Posted) (retain : Option Posted) (puts : List NewPut) (moment : ℕ) (sends : List Send) (local : List LocalChange)
-    (apart : AreApart (seen.of c).pending) where
+    (apart : AreNamedApart (seen.of c).pending) where
   abbrev session : Session
   session = session_of seen c
 

@@ -31,7 +31,7 @@ use Rattle.sn_plan.specs.Bound.{session_of}
 use Rattle.sn_plan.specs.Drafts.{Drafted, moved}
 use Rattle.sn_plan.specs.Flush.{IsFlush, session_with}
 use Rattle.sn_local.specs.Locals.{Local, after_all}
-use Rattle.sn_plan.specs.Numbering.{planned, plan_with, rest_of, numbered, written, start_of, ack_of}
+use Rattle.sn_plan.specs.Numbering.{planned, plan_with, rest_of, numbered, changes_written, start_of, ack_of}
 use Rattle.sn_plan.specs.Others.{is_up, can_wake}
 use Rattle.sn_local.specs.Seen.{Seen, seen_of}
 use Rattle.sn_plan.specs.Plans.{plan_of}
@@ -64,7 +64,7 @@ use Rattle.step_laws.proofs.Timing.{AreKept, due-alike, still_told}
 plan-local : (g : ℕ) (c : List ℕ) (seen : Seen) (d : Drafted) (plan : Plan) → plan_of g c seen d ≡ Some plan → plan.local ≡ d.local
 unfolding planned
 plan-local g c seen d plan e =
-    let m = and_then-some (rest_of g c (λ e. seen.seq e g) seen.clock d) (written c g d.changes (start_of g (seen.of c) (seen.epoch c))) plan e in
+    let m = and_then-some (rest_of g c (λ e. seen.seq e g) seen.clock d) (changes_written c g d.changes (start_of g (seen.of c) (seen.epoch c))) plan e in
     let n = map-some (plan_with d) (numbered g c (λ e. seen.seq e g) seen.clock d (m.0.ops ++ map (ack_of c) d.acks)) plan m.2 in
     ap (λ (p : Plan). p.local) (sym n.2)
 

@@ -36,11 +36,11 @@ use Rattle.sn_tick.specs.declared.due.Due.TheVariants.{Expiry, Loss, Retry, Deli
 use Rattle.sn_exchange.specs.Exchanges.{same_name, left, put_left, message_of, open_exchange}
 use Rattle.sn_exchange.specs.Delivery.{id_to_tell, deliver, then_deliver}
 use Rattle.sn_exchange.specs.Resending.{resend}
-use Rattle.sn_publish.specs.Publishing.{spread_twice}
+use Rattle.sn_publish.specs.Publishing.{publish_at_2}
 use Rattle.sn_tick.specs.Expiry.{under_way, is_under_way, is_expired, is_far_after, has_expired, expire_all}
 use Rattle.sn_tick.specs.Due.{due_session, first_due}
 use Rattle.sn_exchange.specs.Following.{followed_by, followed}
-use Rattle.sn_tick.specs.Ticking.{may_advertise, lost, retried, tick}
+use Rattle.sn_tick.specs.Ticking.{may_advertise, lost, retry_row, tick}
 
 -- the PUBLISH of a message at quality of service 0 is among these frames
 abbrev pub IsSentAtZero : Entries → Peer → Session → Put → List Send → Type 0
@@ -86,13 +86,13 @@ pub record PutsOnce : Type 0 where
       (body name : List ℕ)
       → is_received msg_id s.received ≡ false → id_has_no_room msg_id s.received ≡ false
       → is_received msg_id
-      (session_after s (spread_twice seen asked a s topic msg_id body name)).received ≡ true
+      (session_after s (publish_at_2 seen asked a s topic msg_id body name)).received ≡ true
   pub stays : (s : Session) (change : SessionOp) (msg_id : ℕ) → ends_received msg_id change ≡ false
       → is_received msg_id s.received ≡ true → is_received msg_id (applied s change).received ≡ true
   pub repeated : (seen : Seen) (asked : Bool) (a : Addr) (s : Session) (topic msg_id : ℕ)
       (body name : List ℕ) → is_received msg_id s.received ≡ true
-      → ((spread_twice seen asked a s topic msg_id body name).puts ≡ [])
-      × ((spread_twice seen asked a s topic msg_id body name).retain ≡ None)
+      → ((publish_at_2 seen asked a s topic msg_id body name).puts ≡ [])
+      × ((publish_at_2 seen asked a s topic msg_id body name).retain ≡ None)
 
 -- these changes are those before, or they first end the exchange that was open before
 abbrev pub EndsFirst : List SessionOp → ℕ → List SessionOp → Type 0
@@ -128,8 +128,8 @@ ResentWithDup =
     }) form.topic x.msg_id put.body) d).sends
 
 -- a plan that makes no operation and sends no frame
-abbrev pub IsQuiet : Plan → Type 0
-IsQuiet plan = (plan.ops ≡ []) × (plan.sends ≡ [])
+abbrev pub IsQuietPlan : Plan → Type 0
+IsQuietPlan plan = (plan.ops ≡ []) × (plan.sends ≡ [])
 
 -- a tick that finds nothing due makes nothing and sends nothing
 abbrev pub TickIsQuiet : Type 0
@@ -139,14 +139,14 @@ TickIsQuiet =
     → may_advertise advertise field now local.advertised ≡ false
     → first_due g seen local now seen.all ≡ None
     → (plan : Plan) × (tick g lifetime advertise field predefined seen local now ≡ Some plan)
-    × IsQuiet plan
+    × IsQuietPlan plan
 
 -- messages of names that are all different, as those that wait for a client
-abbrev pub AreApart : List Put → Type 0
-AreApart [] = Unit {0}
-AreApart (put ∷ rest) =
+abbrev pub AreNamedApart : List Put → Type 0
+AreNamedApart [] = Unit {0}
+AreNamedApart (put ∷ rest) =
     AllByRecursion (λ (other : Put). same_name (name_of put) (name_of other) ≡ false) rest
-    × AreApart rest
+    × AreNamedApart rest
 
 -- What is due with a client once a draft is carried out, if its address is then a. It goes by the
 -- session and the timer that the draft leaves the client, and by the messages that it leaves
@@ -163,7 +163,7 @@ abbrev pub due_draft : Entries → Seen → ℕ → List ℕ → Drafted → Due
 due_draft predefined seen now c d Expiry = d
 due_draft predefined seen now c d Loss = lost seen c (session_of seen c) d
 due_draft predefined seen now c d (Retry a) =
-    (followed predefined seen a now (retried now d c)).draft
+    (followed predefined seen a now (retry_row now d c)).draft
 due_draft predefined seen now c d (Delivery a) =
     (followed predefined seen a now (row_of follows.Delivery c d)).draft
 
@@ -174,7 +174,7 @@ abbrev pub TickSettles : Type 0
 TickSettles =
     (predefined : Entries) (seen : Seen) (now : ℕ) (c : List ℕ) (timers : List Timer)
     (a b : Option Addr) (d : Drafted) (reason : Due)
-    → AreApart (seen.of c).pending → d.changes ≡ [] → d.acks ≡ []
+    → AreNamedApart (seen.of c).pending → d.changes ≡ [] → d.acks ≡ []
     → due_after now c (session_of seen c) (seen.of c).pending timers a d ≡ Some reason
     → due_after now c (session_of seen c) (seen.of c).pending timers b
     (due_draft predefined seen now c d reason) ≡ None
@@ -192,8 +192,8 @@ left_by_expiry seen local now c d = left (expire_all seen local now c d).acks (s
 
 -- If messages of a client expire, all that are far before another one of their origin have expired
 -- as well. An expiry acknowledges only messages whose moment is there, and none that the client is
--- in the middle of. It changes no session. After it no message of the client expires at this moment,
--- and what is due with the client by its session was due before.
+-- in the middle of. It changes no session. After it no message of the client expires at this
+-- moment, and what is due with the client by its session was due before.
 pub record ExpirySettles : Type 0 where
   pub near : (seen : Seen) (local : Local) (now : ℕ) (c : List ℕ) (first put : Put)
       → has_expired now (seen.of c).pending (address_of c local.bindings) (seen.of c).session

@@ -13,7 +13,7 @@ ghost use Rattle.sn_local.specs.Seen.{Seen, seen_of};
 ghost use Rattle.sn_plan.specs.Plans.{plan_without};
 ghost use Rattle.sn_plan.specs.Drafts.{nothing};
 ghost use Rattle.sn_plan.specs.Own.{IsOfDraft};
-ghost use Rattle.sn_plan.specs.Flush.{AreFlush};
+ghost use Rattle.sn_plan.specs.Flush.{HaveNoGap};
 ghost use Rattle.sn_tick.specs.Due.{due_with};
 ghost use Rattle.sn_tick.specs.Rest.{is_idle};
 ghost use Rattle.sn_deliver.specs.Steps.{step};
@@ -84,12 +84,12 @@ pub fn expiry_settles()
 /// do, there is nothing to do after more ticks of the moment, and nothing is due with any client.
 pub fn ticks_end()
     ensures bound { (g lifetime advertise : ℕ) (field : List Addr) (predefined : Entries) (now : ℕ)
-        (S : List Op) (local : Local) (ticks : List Ticked) → AreFlush g S
+        (S : List Op) (local : Local) (ticks : List Ticked) → HaveNoGap g S
         → AreTicks g lifetime advertise field predefined now S local ticks
         → busy g advertise field now S local ticks
         ≤ 3 * ((length (clients S) + 1) * (length (clients S) + 1)) }
     ensures ends { (g lifetime advertise : ℕ) (field : List Addr) (predefined : Entries) (now : ℕ)
-        (S : List Op) (local : Local) (ticks : List Ticked) → AreFlush g S
+        (S : List Op) (local : Local) (ticks : List Ticked) → HaveNoGap g S
         → AreTicks g lifetime advertise field predefined now S local ticks
         → 3 * ((length (clients S) + 1) * (length (clients S) + 1)) ≤ length ticks
         → does_something g advertise field (seen_of (set_behind S ticks)) (local_behind local ticks)

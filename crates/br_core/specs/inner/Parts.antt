@@ -11,9 +11,9 @@ use Rattle.br_core.specs.Lanes.{is_same}
 use Rattle.br_core.specs.Sides.{has_window}
 
 -- the first command, and the bridge without it
-abbrev pub first_of : List Command → Option Command
-first_of [] = None
-first_of (command ∷ more) = Some command
+abbrev pub first_command : List Command → Option Command
+first_command [] = None
+first_command (command ∷ more) = Some command
 
 abbrev pub without_first : Bridge → Bridge
 without_first bridge = put_down (record bridge.down { queue = drop 1 bridge.down.queue }) bridge

@@ -8,7 +8,6 @@ use gw_main::options::Settings;
 use gw_main::{SettingsFault, begin, settings};
 use jr_journal::MemoryDisk;
 use rep_state::Folded;
-use std::fs::{File, Files};
 
 /// The shortest settings.
 const SHORT: &str =
@@ -99,16 +98,16 @@ fn look(said: &mut Said, line: &[u8]) {
 
 /// The system whose files are opened.
 #[derive(Drop)]
-struct Opens<'a, T: Files<File = File>> {
-    rt: &'a T,
+struct Opens<'a> {
+    rt: &'a HostRuntime,
 }
 
 /// Plays a row of files.
-pub(crate) fn play_files<T: Files<File = File>>(rt: &T, said: &mut Said, call: &str) {
+pub(crate) fn play_files(rt: &HostRuntime, said: &mut Said, call: &str) {
     play_call(said, &mut Opens { rt }, call);
 }
 
-impl<'a, T: Files<File = File>> Calls for Opens<'a, T> {
+impl<'a> Calls for Opens<'a> {
     fn call_once(&mut self, said: &mut Said, _call: &str) {
         match &FileDisk::at(self.rt, said.alloc, "j") {
             Ok(_disk) => {

@@ -23,7 +23,6 @@ use crate::refusals::{serving, shifts};
 use rep_model::Replica;
 use rep_plain::Plain;
 use rep_state::Folded;
-use std::fs::{File, Files};
 use std::sync::Wait;
 use std::thread::Threads;
 use std::time::Clock;
@@ -158,12 +157,12 @@ pub(crate) const NO_GROWTH: &str = "
 ";
 
 /// Plays a row.
-pub(crate) fn play_row<T>(rt: &T, said: &mut Said, name: &str)
+pub(crate) fn play_row<T>(rt: &T, host: &HostRuntime, said: &mut Said, name: &str)
 where
-    T: Threads + Wait + Sync + Clock + Files<File = File>,
+    T: Threads + Wait + Sync + Clock,
 {
     match parts_of(name) {
-        Some((home, call)) => play_known(rt, said, home, call),
+        Some((home, call)) => play_known(rt, host, said, home, call),
         None => said.stop(Stop::Row),
     }
 }
@@ -179,14 +178,14 @@ fn parts_of(name: &str) -> Option<(&str, &str)> {
 
 /// Plays a row that is there. Each of the functions below knows the rows of some crates, and leaves
 /// all others to the next.
-fn play_known<T>(rt: &T, said: &mut Said, home: &str, call: &str)
+fn play_known<T>(rt: &T, host: &HostRuntime, said: &mut Said, home: &str, call: &str)
 where
-    T: Threads + Wait + Sync + Clock + Files<File = File>,
+    T: Threads + Wait + Sync + Clock,
 {
     match home {
         "gw_shift" if is_word(call, "tally") => play::<Reports>(said, call),
-        "gw_shift" => shifts::play_row::<T, Folded>(rt, said, call),
-        "file_disk" => daemon::play_files(rt, said, call),
+        "gw_shift" => shifts::play_row(rt, said, call),
+        "file_disk" => daemon::play_files(host, said, call),
         "gw_serve" => serving::play_row(rt, said),
         home => play_format(said, home, call),
     }

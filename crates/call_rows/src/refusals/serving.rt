@@ -5,10 +5,9 @@ ghost use Rattle.std.specs.Prelude.{◌≤◌, ◌+◌, length, IfSome};
 use crate::refusals::said::{Said, Stop};
 use crate::refusals::shifts::{Shared, begun};
 use gw_serve::{Cause, ServeFault, Served, serve};
-use gw_shift::{Pass, Shift};
-use gw_wire::{Arrival, OpenGate, Post, Tally, Unsent, Wire, WireFault};
-use jr_journal::{Disk, Failures};
-use rep_model::Replica;
+use gw_shift::Pass;
+use gw_wire::{Arrival, Came, OpenGate, Post, Tally, Unsent, Wire, WireFault};
+use jr_journal::{Failures, MemoryDisk};
 use rep_state::Folded;
 use sn_local::Addr;
 use std::sync::Wait;
@@ -43,22 +42,22 @@ impl Wire for Brief {
 
     ghost drops = { λ wire. wire.drops.count };
 
-    fn recv(&mut self, buffer: &mut [u8]) -> Result<Option<Arrival>, WireFault> {
+    fn recv(&mut self, buffer: &mut [u8]) -> Result<Came, WireFault> {
         if !self.is_left {
             thread::yield_now();
-            return Ok(None);
+            return Ok(Came::Nothing);
         }
         self.is_left = false;
         match arrived(b"\x03\x01\x00", buffer) {
-            None => Ok(None),
+            None => Ok(Came::Nothing),
             Some(arrival) => {
                 self.arrivals = Tally::next(&self.arrivals);
-                Ok(Some(arrival))
+                Ok(Came::Datagram(arrival))
             }
         }
     }
 
-    fn unheard(&mut self) {
+    fn note_dropped(&mut self) {
         self.drops = Tally::next(&self.drops);
     }
 
@@ -94,17 +93,15 @@ impl Post for Mute {
 
 /// Plays the row.
 pub(crate) fn play_row<T: Threads + Wait + Sync + Clock>(rt: &T, said: &mut Said) {
-    play_on::<T, Folded>(rt, said);
+    play_on(rt, said);
 }
 
 /// Plays the row of a gateway with these replicas.
-fn play_on<T, R>(rt: &T, said: &mut Said)
+fn play_on<T>(rt: &T, said: &mut Said)
 where
     T: Threads + Wait + Sync + Clock,
-    R: Replica + Send,
-    R::Staged: Send,
 {
-    if let Some((shift, passes)) = begun::<R>(said) {
+    if let Some((shift, passes)) = begun(said) {
         serve_in(rt, said, &shift, passes);
         drop(shift);
     }
@@ -112,11 +109,9 @@ where
 
 /// Serves, and serves again if that is refused memory. It has its own loop: what a trait's call is
 /// given is not known to be `Sync`.
-fn serve_in<T, R>(rt: &T, said: &mut Said, shift: &Shared<R>, mut passes: Vec<Pass>)
+fn serve_in<T>(rt: &T, said: &mut Said, shift: &Shared<Folded>, mut passes: Vec<Pass>)
 where
     T: Threads + Wait + Sync + Clock,
-    R: Replica + Send,
-    R::Staged: Send,
 {
     said.ask();
     for _ in 0..2 {
@@ -131,12 +126,9 @@ where
 }
 
 /// Serves the datagram with one worker. If that is refused, its pass comes back.
-fn serve_once<T, R, D>(rt: &T, said: &mut Said, shift: &Shift<R, D>, passes: Vec<Pass>) -> Vec<Pass>
+fn serve_once<T>(rt: &T, said: &mut Said, shift: &Shared<Folded>, passes: Vec<Pass>) -> Vec<Pass>
 where
     T: Threads + Wait + Sync + Clock,
-    R: Replica + Send,
-    R::Staged: Send,
-    D: Disk + Drop + Send,
 {
     if passes.is_empty() {
         said.stop(Stop::Other);
@@ -154,7 +146,7 @@ where
 }
 
 /// Prints what serving did. No pass is needed any more.
-fn show_served<R: Replica, D: Disk + Drop>(said: &mut Said, served: Served<'_, R, D>) -> Vec<Pass> {
+fn show_served(said: &mut Said, served: Served<'_, Folded, MemoryDisk>) -> Vec<Pass> {
     said.number("passes", served.passes.len());
     said.number("taken", served.taken.len());
     said.number("left", served.left.len());
@@ -164,7 +156,7 @@ fn show_served<R: Replica, D: Disk + Drop>(said: &mut Said, served: Served<'_, R
 }
 
 /// Looks at what a refusal leaves: the pass.
-fn look<R: Replica, D: Disk + Drop>(said: &mut Said, fault: ServeFault<'_, R, D>) -> Vec<Pass> {
+fn look(said: &mut Said, fault: ServeFault<'_, Folded, MemoryDisk>) -> Vec<Pass> {
     let ServeFault { passes, cause, .. } = fault;
     said.keep(passes.len() == 1);
     said.refuse(cause == Cause::Memory);

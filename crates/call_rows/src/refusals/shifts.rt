@@ -10,8 +10,8 @@ use gw_node::{Answer, NodeFault, Out, Step};
 use gw_report::Glimpse;
 use gw_shift::{CallFault, CloseFault, Closed, Ended, Pass, Shift, ShiftFault};
 use jr_journal::MemoryDisk;
-use rep_model::Replica;
 use rep_ops::Delta;
+use rep_state::Folded;
 use std::alloc::Global;
 use std::mem;
 use std::sync::{Arc, Wait};
@@ -36,11 +36,11 @@ type Closing<R> = Result<Closed<R, MemoryDisk>, (Over<R>, Vec<Pass>, CloseFault)
 
 /// A gateway of which a shift is opened. While that is done, it is not here.
 #[derive(Drop)]
-struct Openings<R: Replica> {
-    node: Option<Gateway<R>>,
+struct Openings {
+    node: Option<Gateway<Folded>>,
 }
 
-impl<R: Replica> Calls for Openings<R> {
+impl Calls for Openings {
     fn call_once(&mut self, said: &mut Said, _call: &str) {
         if let Some(node) = self.node.take() {
             let opened = open(said.alloc, node, 2);
@@ -49,9 +49,9 @@ impl<R: Replica> Calls for Openings<R> {
     }
 }
 
-impl<R: Replica> Openings<R> {
+impl Openings {
     /// Looks at an opening. If it was refused, the gateway came back.
-    fn look(&mut self, said: &mut Said, opened: Opened<R>) {
+    fn look(&mut self, said: &mut Said, opened: Opened<Folded>) {
         match opened {
             Ok((shift, passes)) => {
                 drop(shift);
@@ -74,12 +74,12 @@ fn show_passes(said: &mut Said, passes: Vec<Pass>) {
 }
 
 /// Opens a shift of nine calls.
-fn open<R: Replica>(alloc: Global, node: Gateway<R>, passes: usize) -> Opened<R> {
+fn open(alloc: Global, node: Gateway<Folded>, passes: usize) -> Opened<Folded> {
     Shift::open(alloc, node, passes.clamp(1, 2), 9)
 }
 
 /// A shift of one pass, with it.
-pub(crate) fn begun<R: Replica>(said: &mut Said) -> Option<(Shared<R>, Vec<Pass>)> {
+pub(crate) fn begun(said: &mut Said) -> Option<(Shared<Folded>, Vec<Pass>)> {
     let node = gateway(said, true)?;
     let opened = open(said.alloc, node, 1);
     beside(said, opened)
@@ -88,27 +88,27 @@ pub(crate) fn begun<R: Replica>(said: &mut Said) -> Option<(Shared<R>, Vec<Pass>
 /// A shift, the step of its calls, its pass unless a call has it, and how many calls its history
 /// has.
 #[derive(Drop)]
-struct Work<'a, W: Wait, R: Replica> {
+struct Work<'a, W: Wait> {
     rt: &'a W,
-    shift: &'a Shared<R>,
+    shift: &'a Shared<Folded>,
     step: &'a Arc<Step>,
     pass: Option<Pass>,
     calls: u64,
 }
 
 /// Plays a row of gateways with these replicas.
-pub(crate) fn play_row<W: Wait, R: Replica>(rt: &W, said: &mut Said, call: &str) {
+pub(crate) fn play_row<W: Wait>(rt: &W, said: &mut Said, call: &str) {
     if is_word(call, "Shift::open") {
-        play_opening::<R>(said, call);
+        play_opening(said, call);
     } else if let Some(step) = subscribe(said) {
-        play_with::<W, R>(rt, said, &step, call);
+        play_with(rt, said, &step, call);
         drop(step);
     }
 }
 
 /// Plays the row of an opening.
-fn play_opening<R: Replica>(said: &mut Said, call: &str) {
-    let node = gateway::<R>(said, true);
+fn play_opening(said: &mut Said, call: &str) {
+    let node = gateway::<Folded>(said, true);
     let mut openings = Openings { node };
     play_call(said, &mut openings, call);
     drop(openings);
@@ -122,8 +122,8 @@ fn subscribe(said: &mut Said) -> Option<Arc<Step>> {
 }
 
 /// Plays a row of a shift without calls, which is closed if its calls are what the row is about.
-fn play_with<W: Wait, R: Replica>(rt: &W, said: &mut Said, step: &Arc<Step>, call: &str) {
-    if let Some((shift, passes)) = begun::<R>(said) {
+fn play_with<W: Wait>(rt: &W, said: &mut Said, step: &Arc<Step>, call: &str) {
+    if let Some((shift, passes)) = begun(said) {
         let (pass, calls) = if is_word(call, "Shift::call_all") {
             play_rows(rt, said, &shift, passes, call)
         } else {
@@ -140,10 +140,10 @@ fn play_with<W: Wait, R: Replica>(rt: &W, said: &mut Said, step: &Arc<Step>, cal
 
 /// Plays a row of this shift. It has had a call of the step when something is asked of it. The pass
 /// comes back, and how many calls the history has.
-fn play_in_shift<W: Wait, R: Replica>(
+fn play_in_shift<W: Wait>(
     rt: &W,
     said: &mut Said,
-    shift: &Shared<R>,
+    shift: &Shared<Folded>,
     mut passes: Vec<Pass>,
     step: &Arc<Step>,
     call: &str,
@@ -165,7 +165,7 @@ fn play_in_shift<W: Wait, R: Replica>(
     (pass, calls)
 }
 
-impl<'a, W: Wait, R: Replica> Calls for Work<'a, W, R> {
+impl<'a, W: Wait> Calls for Work<'a, W> {
     fn call_once(&mut self, said: &mut Said, call: &str) {
         if is_word(call, "Shift::call") {
             self.call(said);
@@ -179,7 +179,7 @@ impl<'a, W: Wait, R: Replica> Calls for Work<'a, W, R> {
     }
 }
 
-impl<'a, W: Wait, R: Replica> Work<'a, W, R> {
+impl<'a, W: Wait> Work<'a, W> {
     /// Makes a call of which nothing is printed. If memory is refused in it, the row begins again.
     fn call_aside(&mut self, said: &mut Said) {
         let mut aside = Said::new(said.alloc);
@@ -250,19 +250,19 @@ impl<'a, W: Wait, R: Replica> Work<'a, W, R> {
 /// A shift, the calls that are left for it, its pass unless they have it, and how many calls its
 /// history has.
 #[derive(Drop)]
-struct Rows<'a, W: Wait, R: Replica> {
+struct Rows<'a, W: Wait> {
     rt: &'a W,
-    shift: &'a Shared<R>,
+    shift: &'a Shared<Folded>,
     steps: Vec<Arc<Step>>,
     pass: Option<Pass>,
     calls: u64,
 }
 
 /// Plays the row of calls in a row. The pass comes back, and how many calls the history has.
-fn play_rows<W: Wait, R: Replica>(
+fn play_rows<W: Wait>(
     rt: &W,
     said: &mut Said,
-    shift: &Shared<R>,
+    shift: &Shared<Folded>,
     mut passes: Vec<Pass>,
     call: &str,
 ) -> (Option<Pass>, u64) {
@@ -288,7 +288,7 @@ fn play_rows<W: Wait, R: Replica>(
     (pass, calls)
 }
 
-impl<'a, W: Wait, R: Replica> Calls for Rows<'a, W, R> {
+impl<'a, W: Wait> Calls for Rows<'a, W> {
     /// Makes the calls that are left, in as many rows as it takes.
     fn call_once(&mut self, said: &mut Said, _call: &str) {
         for _ in 0..self.steps.len() {
@@ -302,7 +302,7 @@ impl<'a, W: Wait, R: Replica> Calls for Rows<'a, W, R> {
     }
 }
 
-impl<'a, W: Wait, R: Replica> Rows<'a, W, R> {
+impl<'a, W: Wait> Rows<'a, W> {
     /// Makes the calls that are left in a row, unless others have the pass. Says whether none was
     /// refused.
     fn call_row(&mut self, said: &mut Said) -> bool {
@@ -371,10 +371,10 @@ impl<'a, W: Wait, R: Replica> Rows<'a, W, R> {
 }
 
 /// What a shift answers to calls in a row.
-fn row_by<W: Wait, R: Replica>(
+fn row_by<W: Wait>(
     rt: &W,
     alloc: Global,
-    shift: &Shared<R>,
+    shift: &Shared<Folded>,
     pass: Pass,
     steps: &[Arc<Step>],
 ) -> RowAnswered {
@@ -390,10 +390,10 @@ fn share(said: &mut Said, step: &Arc<Step>) -> Option<Arc<Step>> {
 }
 
 /// What a shift answers to a call.
-fn called_by<W: Wait, R: Replica>(
+fn called_by<W: Wait>(
     rt: &W,
     alloc: Global,
-    shift: &Shared<R>,
+    shift: &Shared<Folded>,
     pass: Pass,
     step: Arc<Step>,
 ) -> Answered {
@@ -413,7 +413,7 @@ fn look_inside(said: &mut Said, fault: &NodeFault) {
 }
 
 /// Asks for the deltas that were made, and prints how many there are.
-fn show_made<W: Wait, R: Replica>(rt: &W, said: &mut Said, shift: &Shared<R>, pass: &Pass) {
+fn show_made<W: Wait>(rt: &W, said: &mut Said, shift: &Shared<Folded>, pass: &Pass) {
     let made = made_by(rt, said.alloc, shift, pass);
     match &made {
         Ok(deltas) => {
@@ -426,17 +426,17 @@ fn show_made<W: Wait, R: Replica>(rt: &W, said: &mut Said, shift: &Shared<R>, pa
 }
 
 /// The deltas that the calls of a shift made.
-fn made_by<W: Wait, R: Replica>(
+fn made_by<W: Wait>(
     rt: &W,
     alloc: Global,
-    shift: &Shared<R>,
+    shift: &Shared<Folded>,
     pass: &Pass,
 ) -> Result<Vec<(u64, Delta)>, CallFault> {
     shift.after(rt, alloc, pass, 0, 9)
 }
 
 /// Looks at the gateway without a call.
-fn look_at<W: Wait, R: Replica>(rt: &W, said: &mut Said, shift: &Shared<R>, call: &str) {
+fn look_at<W: Wait>(rt: &W, said: &mut Said, shift: &Shared<Folded>, call: &str) {
     if is_word(call, "Shift::glance") {
         show_glimpses(rt, said, shift);
     } else {
@@ -445,7 +445,7 @@ fn look_at<W: Wait, R: Replica>(rt: &W, said: &mut Said, shift: &Shared<R>, call
 }
 
 /// Asks for the clients at a glance, and prints how many there are.
-fn show_glimpses<W: Wait, R: Replica>(rt: &W, said: &mut Said, shift: &Shared<R>) {
+fn show_glimpses<W: Wait>(rt: &W, said: &mut Said, shift: &Shared<Folded>) {
     let glimpses = shift.glance(rt, said.alloc, b"", 9);
     match &glimpses {
         Ok(found) => {
@@ -458,7 +458,7 @@ fn show_glimpses<W: Wait, R: Replica>(rt: &W, said: &mut Said, shift: &Shared<R>
 }
 
 /// Asks how many messages are known for each client, and prints for how many clients that is.
-fn show_known<W: Wait, R: Replica>(rt: &W, said: &mut Said, shift: &Shared<R>) {
+fn show_known<W: Wait>(rt: &W, said: &mut Said, shift: &Shared<Folded>) {
     let glimpses = shift.glance(rt, said.alloc, b"", 9);
     match beside(said, glimpses) {
         Some(clients) => {
@@ -470,12 +470,7 @@ fn show_known<W: Wait, R: Replica>(rt: &W, said: &mut Said, shift: &Shared<R>) {
 }
 
 /// The same for these clients.
-fn show_known_of<W: Wait, R: Replica>(
-    rt: &W,
-    said: &mut Said,
-    shift: &Shared<R>,
-    clients: &[Glimpse],
-) {
+fn show_known_of<W: Wait>(rt: &W, said: &mut Said, shift: &Shared<Folded>, clients: &[Glimpse]) {
     let known = shift.messages_known(rt, said.alloc, clients, 1);
     match &known {
         Ok(counts) => {
@@ -488,7 +483,7 @@ fn show_known_of<W: Wait, R: Replica>(
 }
 
 /// Ends a shift: its pass has all calls.
-fn close<R: Replica>(said: &mut Said, shift: Shared<R>, pass: Option<Pass>, calls: u64) {
+fn close(said: &mut Said, shift: Shared<Folded>, pass: Option<Pass>, calls: u64) {
     let passes = listed(said, pass);
     let closing = closed_by(end(shift), passes);
     look_closed(said, &closing, calls);
@@ -513,17 +508,17 @@ fn add(said: &mut Said, passes: &mut Vec<Pass>, pass: Pass) {
 }
 
 /// A shift is over.
-fn end<R: Replica>(shift: Shared<R>) -> Over<R> {
+fn end(shift: Shared<Folded>) -> Over<Folded> {
     shift.end()
 }
 
 /// A shift that is over is closed with passes, or comes back with them.
-fn closed_by<R: Replica>(over: Over<R>, passes: Vec<Pass>) -> Closing<R> {
+fn closed_by(over: Over<Folded>, passes: Vec<Pass>) -> Closing<Folded> {
     over.close(passes)
 }
 
 /// Looks whether a shift was closed, and has so many calls.
-fn look_closed<R: Replica>(said: &mut Said, closing: &Closing<R>, calls: u64) {
+fn look_closed(said: &mut Said, closing: &Closing<Folded>, calls: u64) {
     match closing {
         Ok(closed) => said.keep(closed.history.len() as u64 == calls),
         Err(_) => said.stop(Stop::Other),

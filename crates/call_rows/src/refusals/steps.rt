@@ -16,7 +16,8 @@ use sn_exchange::deliver_next;
 use sn_flow::{connect, disconnect, will_msg, will_msg_update, will_topic, will_topic_update};
 use sn_frame::{Frame, decode};
 use sn_local::{Config, Dialogs, Send, StepFault};
-use sn_plan::{Plan, Row, other, plan_of_row};
+use sn_plan::{Plan, Row, Scene, other, plan_of_row};
+use sn_publish::Publication;
 use sn_subscribe::{register, subscribe, unsubscribe};
 use sn_tick::tick;
 use std::alloc::Global;
@@ -159,6 +160,17 @@ fn read(said: &mut Said, digits: &str) -> Option<Frame>
 }
 
 impl<R: Replica> Steps<R> {
+    /// What a row reads beside the frame.
+    fn scene(&self) -> Scene<'_, R> {
+        Scene {
+            config: &self.config,
+            replica: &self.replica,
+            dialogs: &self.dialogs,
+            from: HERE,
+            moment: 1,
+        }
+    }
+
     /// The plan of a datagram, which is read beside it, or of a tick.
     fn planned(&self, said: &mut Said, word: &str) -> Option<Result<Plan, StepFault>> {
         if is_word(word, "tick") {
@@ -223,7 +235,8 @@ impl<R: Replica> Steps<R> {
     fn deliver_once(&self, said: &mut Said) {
         if let Some(made) = self.row(said) {
             if let Some(row) = beside(said, made) {
-                let plan = deliver_next(said.alloc, &self.config, &self.replica, HERE, 1, row);
+                let scene = self.scene();
+                let plan = deliver_next(said.alloc, &scene, row);
                 show_planned(said, plan);
             }
         }
@@ -263,106 +276,83 @@ impl<R: Replica> Steps<R> {
     /// The row of a frame. Each of the functions below knows some frames, and leaves all others to
     /// the next.
     fn row_of(&self, alloc: Global, frame: &Frame) -> Result<Row, NoMemory> {
-        let (config, replica, dialogs) = (&self.config, &self.replica, &self.dialogs);
+        let scene = self.scene();
         match frame {
             Frame::Connect {
                 flags,
                 protocol,
                 duration,
                 ..
-            } => connect(
-                alloc,
-                replica,
-                dialogs,
-                HERE,
-                *flags,
-                *protocol,
-                *duration,
-                &self.client,
-                1,
-            ),
-            Frame::Disconnect { duration } => {
-                disconnect(alloc, replica, dialogs, HERE, *duration, 1)
-            }
-            Frame::PingReq { .. } => wake(alloc, config, replica, dialogs, HERE, b"s1", 1),
-            Frame::SearchGw { .. } => other(alloc, config, dialogs, HERE, frame, 1),
-            frame => self.will_row_of(alloc, frame),
+            } => connect(alloc, &scene, *flags, *protocol, *duration, &self.client),
+            Frame::Disconnect { duration } => disconnect(alloc, &scene, *duration),
+            Frame::PingReq { .. } => wake(alloc, &scene, b"s1"),
+            Frame::SearchGw { .. } => other(alloc, &scene, frame),
+            frame => will_row_of(alloc, &scene, frame),
         }
     }
+}
 
-    /// The row of a frame that is about a will.
-    fn will_row_of(&self, alloc: Global, frame: &Frame) -> Result<Row, NoMemory> {
-        let (replica, dialogs) = (&self.replica, &self.dialogs);
-        match frame {
-            Frame::WillTopic { will } => will_topic(alloc, replica, dialogs, HERE, will, 1),
-            Frame::WillMsg { message } => {
-                will_msg(alloc, replica, dialogs, HERE, message.as_slice(), 1)
-            }
-            Frame::WillTopicUpd { will } => will_topic_update(alloc, dialogs, HERE, will, 1),
-            Frame::WillMsgUpd { message } => {
-                will_msg_update(alloc, replica, dialogs, HERE, message.as_slice(), 1)
-            }
-            frame => self.message_row_of(alloc, frame),
-        }
+/// The row of a frame that is about a will.
+fn will_row_of<R: Replica>(
+    alloc: Global,
+    scene: &Scene<'_, R>,
+    frame: &Frame,
+) -> Result<Row, NoMemory> {
+    match frame {
+        Frame::WillTopic { will } => will_topic(alloc, scene, will),
+        Frame::WillMsg { message } => will_msg(alloc, scene, message.as_slice()),
+        Frame::WillTopicUpd { will } => will_topic_update(alloc, scene, will),
+        Frame::WillMsgUpd { message } => will_msg_update(alloc, scene, message.as_slice()),
+        frame => message_row_of(alloc, scene, frame),
     }
+}
 
-    /// The row of a frame that is about a message.
-    fn message_row_of(&self, alloc: Global, frame: &Frame) -> Result<Row, NoMemory> {
-        let (config, replica, dialogs) = (&self.config, &self.replica, &self.dialogs);
-        match frame {
-            Frame::Publish {
-                flags,
-                topic,
-                msg_id,
+/// The row of a frame that is about a message.
+fn message_row_of<R: Replica>(
+    alloc: Global,
+    scene: &Scene<'_, R>,
+    frame: &Frame,
+) -> Result<Row, NoMemory> {
+    match frame {
+        Frame::Publish {
+            flags,
+            topic,
+            msg_id,
+            body,
+        } => {
+            let publication = Publication {
+                flags: *flags,
+                topic: *topic,
+                msg_id: *msg_id,
                 body,
-            } => publish_in(
-                alloc, config, replica, dialogs, HERE, *flags, *topic, *msg_id, body, 1,
-            ),
-            Frame::PubRel { msg_id } => pubrel_in(alloc, replica, dialogs, HERE, *msg_id, 1),
-            Frame::PubAck { .. } => ack_in(alloc, config, replica, dialogs, HERE, frame, 1),
-            frame => self.topic_row_of(alloc, frame),
+            };
+            publish_in(alloc, scene, &publication)
         }
+        Frame::PubRel { msg_id } => pubrel_in(alloc, scene, *msg_id),
+        Frame::PubAck { .. } => ack_in(alloc, scene, frame),
+        frame => topic_row_of(alloc, scene, frame),
     }
+}
 
-    /// The row of a frame that is about topics.
-    fn topic_row_of(&self, alloc: Global, frame: &Frame) -> Result<Row, NoMemory> {
-        let (config, replica, dialogs) = (&self.config, &self.replica, &self.dialogs);
-        match frame {
-            Frame::Register { msg_id, name, .. } => {
-                register(alloc, replica, dialogs, HERE, *msg_id, name.as_slice(), 1)
-            }
-            Frame::Subscribe {
-                flags,
-                msg_id,
-                topic,
-            } => subscribe(
-                alloc,
-                config,
-                replica,
-                dialogs,
-                HERE,
-                *flags,
-                *msg_id,
-                topic.as_slice(),
-                1,
-            ),
-            Frame::Unsubscribe {
-                flags,
-                msg_id,
-                topic,
-            } => unsubscribe(
-                alloc,
-                config,
-                replica,
-                dialogs,
-                HERE,
-                *flags,
-                *msg_id,
-                topic.as_slice(),
-                1,
-            ),
-            _ => Err(NoMemory),
-        }
+/// The row of a frame that is about topics.
+fn topic_row_of<R: Replica>(
+    alloc: Global,
+    scene: &Scene<'_, R>,
+    frame: &Frame,
+) -> Result<Row, NoMemory> {
+    match frame {
+        Frame::Register { msg_id, name, .. } => register(alloc, scene, *msg_id, name.as_slice()),
+        Frame::Subscribe {
+            flags,
+            msg_id,
+            topic,
+        } => subscribe(alloc, scene, *flags, *msg_id, topic.as_slice()),
+        Frame::Unsubscribe {
+            flags,
+            msg_id,
+            topic,
+        } => unsubscribe(alloc, scene, *flags, *msg_id, topic.as_slice()),
+        _ => Err(NoMemory),
     }
 }
 

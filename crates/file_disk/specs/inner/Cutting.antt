@@ -5,7 +5,7 @@ use Rattle.file_disk.specs.declared.cutting.Trust.{Trust}
 use Rattle.file_disk.specs.declared.cutting.Trust.TheVariants.{Sound, Fresh, Doubtful}
 use Rattle.file_disk.specs.declared.cutting.Shortened.{Shortened}
 use Rattle.file_disk.specs.declared.cutting.Shortened.TheVariants.{Kept, Loose, Done}
-use Rattle.file_disk.specs.Files.{FileState, IsCertain, shortened, settled, suspected}
+use Rattle.file_disk.specs.Files.{FileState, IsCertain, shortened, file_settled, suspected}
 
 -- what is known of a file is so
 abbrev pub IsTrusted : Trust → FileState → Type 0
@@ -17,4 +17,4 @@ IsTrusted Doubtful s = Unit {0}
 abbrev pub IsShortened : FileState → ℕ → Shortened → FileState → Type 0
 IsShortened old len Kept new = new ≡ old
 IsShortened old len Loose new = new ≡ suspected (shortened old len)
-IsShortened old len Done new = new ≡ settled (shortened old len)
+IsShortened old len Done new = new ≡ file_settled (shortened old len)

@@ -28,11 +28,6 @@ alone ends.Reopened = ends.Reopened
 
 -- the trouble that a refusal of what another gateway told is, if an operator should hear of it
 abbrev pub trouble_of : Refusal → Option Trouble
-trouble_of (refusals.Frame fault) = None
-trouble_of refusals.Halted = None
-trouble_of (refusals.Disk out) = None
 trouble_of (refusals.Conflict client) = Some troubles.Conflict
 trouble_of refusals.Full = Some troubles.TooMuch
-trouble_of refusals.Exhausted = None
-trouble_of refusals.Memory = None
-trouble_of (refusals.Journal fault) = None
+trouble_of refusal = None

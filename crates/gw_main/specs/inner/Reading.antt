@@ -7,7 +7,7 @@ use Rattle.gw_main.specs.declared.fault.SettingsFault.TheVariants as faults
 use Rattle.gw_main.specs.declared.parsing.Plain.{Plain}
 use Rattle.gw_main.specs.declared.parsing.Lists.{Lists}
 use Rattle.gw_main.specs.declared.parsing.Shown.{Shown}
-use Rattle.gw_main.specs.Reading.{first_bad, gateway_in, listen_in, link_in, journal_in, workers_in, steps_in, advertise_in, lifetime_in, field_in, peers_in, predefined_in, numbers_in, clients_in, newcomers_in, status_in, log_in}
+use Rattle.gw_main.specs.Reading.{first_bad, gateway_in, listen_in, link_in, journal_in, workers_in, shift_steps_in, advertise_in, lifetime_in, field_in, peers_in, predefined_in, numbers_in, clients_in, newcomers_in, status_in, log_in}
 
 -- why members are refused whose first bad key is this
 abbrev pub IsBadOf : Option Key → SettingsFault → Type 0
@@ -32,7 +32,7 @@ pub record SaysPlain (members : Members) (plain : Plain) : Type 0 where
   pub link : link_in members ≡ Some plain.link
   pub journal : journal_in members ≡ Some (string_bytes plain.journal)
   pub workers : workers_in members ≡ Some plain.workers
-  pub steps : steps_in members ≡ Some plain.steps
+  pub steps : shift_steps_in members ≡ Some plain.steps
   pub advertise : advertise_in members ≡ Some plain.advertise
   pub lifetime : lifetime_in members ≡ Some plain.lifetime
 

@@ -3,7 +3,7 @@ use Rattle.std.specs.Prelude.{◌≡◌, ◌≢◌, ◌⊎◌, ◌++◌, ◌∷�
 use Rattle.std.specs.Option.{option_to_list}
 use Rattle.rep_op.specs.declared.op.Op.{Op}
 use Rattle.rep_ops.specs.Deltas.{IsDelta}
-use Rattle.rep_ops.specs.Making.{AreApart, IsDeltaOf}
+use Rattle.rep_ops.specs.Making.{HaveOwnNames, IsDeltaOf}
 use Rattle.rep_model.specs.Keep.{IsKeptOf}
 use Rattle.rep_model.specs.Taking.{Fits}
 use Rattle.sn_local.specs.declared.config.Send.{Send}
@@ -54,7 +54,7 @@ pub record IsDoneAhead {D : Type 0} {G : Ghosts D} (old : State G) (plan : Plan)
   pub records : new.records ≡ old.records
   pub journal : IsUntouched old.journal new.journal
   pub local : new.local ≡ after_all old.local plan.local
-  pub apart : AreApart plan.ops
+  pub apart : HaveOwnNames plan.ops
   pub made : MakesAhead plan.ops out.made old new
   pub answer : out ≡ record (only_sends plan.sends) { made = out.made }
 
@@ -74,7 +74,6 @@ abbrev pub OwnAhead : {D : Type 0} {G : Ghosts D} → State G → Occasion → �
     → State G → Type 0
 OwnAhead old occasion now (Ok out) new =
     (plan : Plan) × IsPlanFor old occasion now (Some plan) × IsDoneAhead old plan out new
-OwnAhead old occasion now (Err refusals.Halted) new = ⊥
 OwnAhead old occasion now (Err (refusals.Frame fault)) new =
     IsNoFrame occasion fault × IsUnchanged old new
 OwnAhead old occasion now (Err refusals.Exhausted) new =
@@ -85,24 +84,19 @@ OwnAhead old occasion now (Err (refusals.Conflict client)) new =
 OwnAhead old occasion now (Err refusals.Full) new =
     ((plan : Plan) × IsPlanFor old occasion now (Some plan)
     × AreTooMuch old.kept plan.ops refusals.Full) × IsUnchanged old new
-OwnAhead old occasion now (Err (refusals.Disk excuse)) new = ⊥
 OwnAhead old occasion now (Err refusals.Memory) new = IsUnchanged old new
-OwnAhead old occasion now (Err (refusals.Journal fault)) new = ⊥
+OwnAhead old occasion now answer new = ⊥
 
 -- a delta: as `TakeCall`, but for the write
 abbrev pub TakeAhead : {D : Type 0} {G : Ghosts D} → State G → List Op → Result Out Refusal
     → State G → Type 0
 TakeAhead old delta (Ok out) new = (out ≡ only_sends []) × IsTakenAhead old delta new
-TakeAhead old delta (Err refusals.Halted) new = ⊥
 TakeAhead old delta (Err (refusals.Conflict client)) new =
     IsMisfit old.kept delta (refusals.Conflict client) × IsUnchanged old new
 TakeAhead old delta (Err refusals.Full) new =
     IsMisfit old.kept delta refusals.Full × IsUnchanged old new
-TakeAhead old delta (Err (refusals.Disk excuse)) new = ⊥
 TakeAhead old delta (Err refusals.Memory) new = IsUnchanged old new
-TakeAhead old delta (Err (refusals.Frame fault)) new = ⊥
-TakeAhead old delta (Err refusals.Exhausted) new = ⊥
-TakeAhead old delta (Err (refusals.Journal fault)) new = ⊥
+TakeAhead old delta answer new = ⊥
 
 -- a call that may write, but for the write
 abbrev pub StepAhead : {D : Type 0} {G : Ghosts D} → State G → Step → Result Out Refusal → State G
@@ -111,11 +105,7 @@ StepAhead old (steps.Frame from bytes now) answer new =
     OwnAhead old (Datagram from bytes) now answer new
 StepAhead old (steps.Take delta) answer new = TakeAhead old delta answer new
 StepAhead old (steps.Tick now) answer new = OwnAhead old Clock now answer new
-StepAhead old (steps.View client) answer new = ⊥
-StepAhead old steps.Digest answer new = ⊥
-StepAhead old (steps.Answer asked) answer new = ⊥
-StepAhead old steps.Compact answer new = ⊥
-StepAhead old steps.Reopen answer new = ⊥
+StepAhead old step answer new = ⊥
 
 -- a plan with operations was carried out but for the write, or why it was not
 abbrev pub CarriedAhead : {D : Type 0} {G : Ghosts D} → State G → Plan → Result Out Refusal
@@ -126,29 +116,19 @@ CarriedAhead old plan (Err (refusals.Conflict client)) new =
 CarriedAhead old plan (Err refusals.Full) new =
     AreTooMuch old.kept plan.ops refusals.Full × IsUnchanged old new
 CarriedAhead old plan (Err refusals.Memory) new = IsUnchanged old new
-CarriedAhead old plan (Err refusals.Halted) new = ⊥
-CarriedAhead old plan (Err (refusals.Frame fault)) new = ⊥
-CarriedAhead old plan (Err (refusals.Disk excuse)) new = ⊥
-CarriedAhead old plan (Err refusals.Exhausted) new = ⊥
-CarriedAhead old plan (Err (refusals.Journal fault)) new = ⊥
+CarriedAhead old plan answer new = ⊥
 
 -- what a plan without operations notes was noted, or memory ran out
 abbrev pub NotedAs : {D : Type 0} {G : Ghosts D} → State G → Plan → Result Out Refusal → State G
     → Type 0
 NotedAs old plan (Ok out) new = IsDoneAhead old plan out new × (out.made ≡ None)
 NotedAs old plan (Err refusals.Memory) new = IsUnchanged old new
-NotedAs old plan (Err refusals.Halted) new = ⊥
-NotedAs old plan (Err (refusals.Frame fault)) new = ⊥
-NotedAs old plan (Err (refusals.Disk excuse)) new = ⊥
-NotedAs old plan (Err (refusals.Conflict client)) new = ⊥
-NotedAs old plan (Err refusals.Full) new = ⊥
-NotedAs old plan (Err refusals.Exhausted) new = ⊥
-NotedAs old plan (Err (refusals.Journal fault)) new = ⊥
+NotedAs old plan answer new = ⊥
 
 -- the delta that was made, if one was
-abbrev pub made_by : Result Out Refusal → List (List Op)
-made_by (Ok out) = option_to_list out.made
-made_by (Err refusal) = []
+abbrev pub made_in : Result Out Refusal → List (List Op)
+made_in (Ok out) = option_to_list out.made
+made_in (Err refusal) = []
 
 -- ---- what is found before anything is written
 
@@ -166,12 +146,7 @@ abbrev pub IsWriter : {D : Type 0} {G : Ghosts D} → State G → Step → Plan 
 IsWriter old (steps.Frame from bytes now) plan excuse =
     WritesPlan old (Datagram from bytes) now plan excuse
 IsWriter old (steps.Tick now) plan excuse = WritesPlan old Clock now plan excuse
-IsWriter old (steps.Take delta) plan excuse = ⊥
-IsWriter old (steps.View client) plan excuse = ⊥
-IsWriter old steps.Digest plan excuse = ⊥
-IsWriter old (steps.Answer asked) plan excuse = ⊥
-IsWriter old steps.Compact plan excuse = ⊥
-IsWriter old steps.Reopen plan excuse = ⊥
+IsWriter old step plan excuse = ⊥
 
 -- What was found of a plan, with these datagrams as its excuse.
 abbrev pub LooksFor : {D : Type 0} {G : Ghosts D} → State G → Plan → List Send → Left → State G

@@ -14,7 +14,7 @@ use Rattle.sn_deliver.specs.Steps.{step}
 use Rattle.sn_tick.specs.Rest.{is_idle}
 use Rattle.sn_tick.specs.Ticking.{tick}
 use Rattle.jr_disk.specs.declared.disk.Disk.{Ghosts}
-use Rattle.jr_journal.specs.Parts.{disk_of, gateway_of}
+use Rattle.jr_journal.specs.Parts.{disk_under, gateway_of}
 use Rattle.gw_answer.specs.declared.out.Out.{Out}
 use Rattle.gw_answer.specs.declared.refusal.Refusal.{Refusal}
 use Rattle.gw_answer.specs.declared.refusal.Refusal.TheVariants as refusals
@@ -30,12 +30,7 @@ use Rattle.gw_node.specs.inner.Opening.{DoNotFit}
 abbrev pub IsNoFrameBy : List ℕ → Refusal → Type 0
 IsNoFrameBy bytes (refusals.Frame fault) = IsFirstFault bytes fault × (fault ≢ frame_faults.Memory)
 IsNoFrameBy bytes refusals.Memory = Unit {0}
-IsNoFrameBy bytes refusals.Halted = ⊥
-IsNoFrameBy bytes (refusals.Disk excuse) = ⊥
-IsNoFrameBy bytes (refusals.Conflict client) = ⊥
-IsNoFrameBy bytes refusals.Full = ⊥
-IsNoFrameBy bytes refusals.Exhausted = ⊥
-IsNoFrameBy bytes (refusals.Journal fault) = ⊥
+IsNoFrameBy bytes refusal = ⊥
 
 -- the plan for a frame, by what is kept
 abbrev pub planned_for : {D : Type 0} {G : Ghosts D} → State G → Addr → Frame → ℕ → Option Plan
@@ -59,23 +54,13 @@ IsIdleAt old now =
 abbrev pub IsNoPlan : Option Plan → Refusal → Type 0
 IsNoPlan planned refusals.Exhausted = planned ≡ None
 IsNoPlan planned refusals.Memory = Unit {0}
-IsNoPlan planned (refusals.Frame fault) = ⊥
-IsNoPlan planned refusals.Halted = ⊥
-IsNoPlan planned (refusals.Disk excuse) = ⊥
-IsNoPlan planned (refusals.Conflict client) = ⊥
-IsNoPlan planned refusals.Full = ⊥
-IsNoPlan planned (refusals.Journal fault) = ⊥
+IsNoPlan planned refusal = ⊥
 
 -- the operations make no delta
 abbrev pub HaveNoDelta : List Op → Refusal → Type 0
 HaveNoDelta ops refusals.Full = MakeNoDelta ops
 HaveNoDelta ops refusals.Memory = Unit {0}
-HaveNoDelta ops (refusals.Frame fault) = ⊥
-HaveNoDelta ops refusals.Halted = ⊥
-HaveNoDelta ops (refusals.Disk excuse) = ⊥
-HaveNoDelta ops (refusals.Conflict client) = ⊥
-HaveNoDelta ops refusals.Exhausted = ⊥
-HaveNoDelta ops (refusals.Journal fault) = ⊥
+HaveNoDelta ops refusal = ⊥
 
 -- a plan was carried out, or why it was not; `excuse` is the answer if the journal cannot be
 -- written
@@ -90,9 +75,7 @@ CarriedOut old plan excuse (Err (refusals.Conflict client)) new =
 CarriedOut old plan excuse (Err refusals.Full) new =
     AreTooMuch old.kept plan.ops refusals.Full × IsUnchanged old new
 CarriedOut old plan excuse (Err refusals.Memory) new = IsUnchanged old new
-CarriedOut old plan excuse (Err (refusals.Frame fault)) new = ⊥
-CarriedOut old plan excuse (Err refusals.Exhausted) new = ⊥
-CarriedOut old plan excuse (Err (refusals.Journal fault)) new = ⊥
+CarriedOut old plan excuse answer new = ⊥
 
 -- the plan, if there is one, was carried out, or why it was not; `excuse` makes of what would have
 -- been sent what is sent in its place
@@ -126,7 +109,7 @@ pub record IsGivenBack {D : Type 0} {G : Ghosts D} (old : State G) (deltas : Lis
   pub kept : new.kept ≡ old.kept
   pub local : new.local ≡ old.local
   pub gateway : gateway_of new.journal ≡ gateway_of old.journal
-  pub disk : disk_of new.journal ≡ disk_of old.journal
+  pub disk : disk_under new.journal ≡ disk_under old.journal
   pub halts : refusal ≢ refusals.Memory → is_halted new ≡ true
   pub wanting : refusal ≡ refusals.Memory → is_halted new ≡ (if halted then true else is_halted old)
   pub why : DoNotFit deltas refusal

@@ -10,8 +10,4 @@ abbrev pub DoNotFit : List (List Op) → Refusal → Type 0
 DoNotFit deltas (refusals.Conflict client) = HasMisfit deltas (refusals.Conflict client)
 DoNotFit deltas refusals.Full = HasMisfit deltas refusals.Full
 DoNotFit deltas refusals.Memory = Unit {0}
-DoNotFit deltas (refusals.Frame fault) = ⊥
-DoNotFit deltas refusals.Halted = ⊥
-DoNotFit deltas (refusals.Disk excuse) = ⊥
-DoNotFit deltas refusals.Exhausted = ⊥
-DoNotFit deltas (refusals.Journal fault) = ⊥
+DoNotFit deltas refusal = ⊥

@@ -11,7 +11,7 @@ use Rattle.jr_journal.specs.declared.journal.Journal.{Journal}
 use Rattle.jr_journal.specs.Records.{written_all, records}
 use Rattle.jr_journal.specs.Crashes.{Leaves, LeavesSome}
 use Rattle.jr_journal.specs.Arranged.{after_append, IsStruck, AppendedAs}
-use Rattle.jr_journal.specs.Parts.{disk_of, gateway_of, slot_of, generation_of, is_halted as is_stopped}
+use Rattle.jr_journal.specs.Parts.{disk_under, gateway_of, slot_of, generation_of, is_stopped}
 use Rattle.gw_answer.specs.Answers.{only_sends}
 use Rattle.gw_answer.specs.declared.out.Out.{Out}
 use Rattle.gw_answer.specs.declared.refusal.Refusal.{Refusal}
@@ -22,7 +22,7 @@ use Rattle.gw_event.specs.Occasions.{Datagram, Clock}
 use Rattle.gw_event.specs.Together.{put_by, put_by_all}
 use Rattle.gw_node.specs.Parts.{State, is_halted, IsUnchanged}
 use Rattle.gw_node.specs.Calls.{StepCall}
-use Rattle.gw_node.specs.inner.Ahead.{IsDoneAhead, IsTakenAhead, StepAhead, CarriedAhead, WritesPlan, made_by}
+use Rattle.gw_node.specs.inner.Ahead.{IsDoneAhead, IsTakenAhead, StepAhead, CarriedAhead, WritesPlan, made_in}
 
 -- ---- the journal
 
@@ -33,15 +33,15 @@ pub record AreWritten {D : Type 0} {G : Ghosts D} (old : Journal D G) (deltas : 
   pub slot : slot_of new ≡ slot_of old
   pub generation : generation_of new ≡ generation_of old
   pub goes_on : is_stopped new ≡ false
-  pub failures : G.failures (disk_of old) ≤ G.failures (disk_of new)
-  pub exact : G.honest → G.slots (disk_of new) ≡ after_append None (G.slots (disk_of old))
+  pub failures : G.failures (disk_under old) ≤ G.failures (disk_under new)
+  pub exact : G.honest → G.slots (disk_under new) ≡ after_append None (G.slots (disk_under old))
       (slot_of old) (written_all deltas)
-  pub durable : G.honest → Leaves (gateway_of old) (G.slots (disk_of new))
-      (records (gateway_of old) (image (G.slots (disk_of old))) ++ deltas)
+  pub durable : G.honest → Leaves (gateway_of old) (G.slots (disk_under new))
+      (records (gateway_of old) (image (G.slots (disk_under old))) ++ deltas)
   -- if it is known which failure is arranged, there was none
-  pub known : G.honest → G.starved (disk_of new) ≡ false
-      → AppendedAs (G.outlook (disk_of old)) (G.slots (disk_of old)) (slot_of old)
-      (written_all deltas) (Ok (record {})) (G.slots (disk_of new)) (G.outlook (disk_of new))
+  pub known : G.honest → G.starved (disk_under new) ≡ false
+      → AppendedAs (G.outlook (disk_under old)) (G.slots (disk_under old)) (slot_of old)
+      (written_all deltas) (Ok (record {})) (G.slots (disk_under new)) (G.outlook (disk_under new))
 
 -- The disk failed: the journal is halted, and a crash leaves some first ones of the deltas as
 -- records, each whole.
@@ -51,26 +51,23 @@ pub record AreFailed {D : Type 0} {G : Ghosts D} (old : Journal D G) (deltas : L
   pub slot : slot_of new ≡ slot_of old
   pub generation : generation_of new ≡ generation_of old
   pub halts : is_stopped new ≡ true
-  pub cause : G.failures (disk_of old) < G.failures (disk_of new)
+  pub cause : G.failures (disk_under old) < G.failures (disk_under new)
   -- it is as one of the failures leaves it
-  pub struck : IsStruck G.honest (G.slots (disk_of old)) (slot_of old) (written_all deltas)
-      (G.slots (disk_of new))
-  pub torn : G.honest → LeavesSome (gateway_of old) (G.slots (disk_of new))
-      (records (gateway_of old) (image (G.slots (disk_of old)))) deltas
+  pub struck : IsStruck G.honest (G.slots (disk_under old)) (slot_of old) (written_all deltas)
+      (G.slots (disk_under new))
+  pub torn : G.honest → LeavesSome (gateway_of old) (G.slots (disk_under new))
+      (records (gateway_of old) (image (G.slots (disk_under old)))) deltas
   -- if it is known which failure is arranged, it is this one
-  pub known : G.honest → G.starved (disk_of new) ≡ false
-      → AppendedAs (G.outlook (disk_of old)) (G.slots (disk_of old)) (slot_of old)
-      (written_all deltas) (Err faults.Disk) (G.slots (disk_of new)) (G.outlook (disk_of new))
+  pub known : G.honest → G.starved (disk_under new) ≡ false
+      → AppendedAs (G.outlook (disk_under old)) (G.slots (disk_under old)) (slot_of old)
+      (written_all deltas) (Err faults.Disk) (G.slots (disk_under new)) (G.outlook (disk_under new))
 
 -- what became of the journal, by the answer of the write; it runs, and so is never halted
 abbrev pub WrittenAllAs : {D : Type 0} {G : Ghosts D} → Journal D G → List (List Op)
     → Result (Unit {0}) JournalFault → Journal D G → Type 0
 WrittenAllAs old deltas (Ok done) new = AreWritten old deltas new
 WrittenAllAs old deltas (Err faults.Disk) new = AreFailed old deltas new
-WrittenAllAs old deltas (Err faults.Halted) new = ⊥
-WrittenAllAs old deltas (Err faults.Memory) new = ⊥
-WrittenAllAs old deltas (Err faults.Foreign) new = ⊥
-WrittenAllAs old deltas (Err (faults.BadRecord slot at)) new = ⊥
+WrittenAllAs old deltas result new = ⊥
 
 -- ---- calls one after the other
 
@@ -99,7 +96,7 @@ CarriedAlong old plan (Some reply) new =
 -- the delta that was made, if one was
 abbrev pub made_if : Option (Result Out Refusal) → List (List Op)
 made_if None = []
-made_if (Some reply) = made_by reply
+made_if (Some reply) = made_in reply
 
 -- what a call behind the first came to, or nothing, if it is for another row
 abbrev pub WentAhead : {D : Type 0} {G : Ghosts D} → State G → Step
@@ -149,11 +146,7 @@ BeginsRow old (steps.Tick now) out excuse new =
     (plan : Plan) × WritesPlan old Clock now plan excuse × IsDoneAhead old plan out new
 BeginsRow old (steps.Take delta) out excuse new =
     (delta ≢ []) × (out ≡ only_sends []) × (excuse ≡ only_sends []) × IsTakenAhead old delta new
-BeginsRow old (steps.View client) out excuse new = ⊥
-BeginsRow old steps.Digest out excuse new = ⊥
-BeginsRow old (steps.Answer asked) out excuse new = ⊥
-BeginsRow old steps.Compact out excuse new = ⊥
-BeginsRow old steps.Reopen out excuse new = ⊥
+BeginsRow old step out excuse new = ⊥
 
 -- the answers if the disk failed: the excuse to the first, and to those behind that the gateway is
 -- halted
@@ -209,4 +202,5 @@ pub record IsAlone {D : Type 0} {G : Ghosts D} (old : State G) (first : Step)
 -- the first of these calls by itself, or a row that it begins
 abbrev pub RowCall : {D : Type 0} {G : Ghosts D} → State G → Step → List Step
     → List (Result Out Refusal) → State G → Type 0
-RowCall old first rest answers new = IsAlone old first answers new ⊎ IsRow old first rest answers new
+RowCall old first rest answers new =
+    IsAlone old first answers new ⊎ IsRow old first rest answers new

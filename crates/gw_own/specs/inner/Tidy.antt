@@ -1,9 +1,9 @@
 -- Which operations and changes leave the gateway whom it knows.
 use Rattle.std.specs.Prelude.{ℕ, Bool, true, ◌&&◌, ◌||◌, ◌==◌, not, List, is_none}
 use Rattle.rep_op.specs.declared.op.Op.{Op}
-use Rattle.rep_op.specs.declared.op.Op.TheVariants.{Session as OfSession, Put as OfPut, Ack, Retain as OfRetain}
+use Rattle.rep_op.specs.declared.op.Op.TheVariants.{Session as OfSession}
 use Rattle.sn_local.specs.declared.local.LocalChange.{LocalChange}
-use Rattle.sn_local.specs.declared.local.LocalChange.TheVariants.{Bind, Unbind, Time, Heard, Sent, Resent, Retried, Ask, EndDialog, Advertised}
+use Rattle.sn_local.specs.declared.local.LocalChange.TheVariants.{Bind, Time, Heard, Sent, Resent, Retried}
 use Rattle.sn_local.specs.Seen.{Seen, seen_of}
 use Rattle.sn_local.specs.Locals.{Local}
 use Rattle.sn_local.specs.Bindings.{address_of, is_owned}
@@ -19,27 +19,22 @@ abbrev pub is_stranger : List ℕ → Local → Bool
 is_stranger c local = is_none (address_of c local.bindings) && is_none (timer_of c local.timers)
 
 -- whether the gateway owns the client, or knows nothing of it
-abbrev pub is_left : ℕ → Seen → Local → List ℕ → Bool
-is_left g seen local c = is_owned g seen c || is_stranger c local
+abbrev pub stays_bound : ℕ → Seen → Local → List ℕ → Bool
+stays_bound g seen local c = is_owned g seen c || is_stranger c local
 
 -- Whether the operation leaves the gateway each client whose address or timer it knows. So does all
 -- but a Take, and a Take of a client that the gateway owns, or of a stranger.
 abbrev pub leaves_all : ℕ → Seen → Local → Op → Bool
 leaves_all g seen local (OfSession c stamp counter change) =
-    not (counter == 0) || is_left g seen local c
-leaves_all g seen local (OfPut c put) = true
-leaves_all g seen local (Ack c origin first last) = true
-leaves_all g seen local (OfRetain t kept) = true
+    not (counter == 0) || stays_bound g seen local c
+leaves_all g seen local op = true
 
 -- whether an address or a timer that the change notes is of a client that the gateway owns
 abbrev pub notes_owned : ℕ → Seen → LocalChange → Bool
 notes_owned g seen (Bind a c) = is_owned g seen c
-notes_owned g seen (Unbind c) = true
 notes_owned g seen (Time timer) = is_owned g seen timer.client
 notes_owned g seen (Heard c now) = is_owned g seen c
 notes_owned g seen (Sent c now) = is_owned g seen c
 notes_owned g seen (Resent c now) = is_owned g seen c
 notes_owned g seen (Retried c now) = is_owned g seen c
-notes_owned g seen (Ask dialog) = true
-notes_owned g seen (EndDialog a) = true
-notes_owned g seen (Advertised now) = true
+notes_owned g seen change = true

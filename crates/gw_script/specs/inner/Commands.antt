@@ -6,7 +6,7 @@ use Rattle.gw_script.specs.declared.fault.LineFault.TheVariants as faults
 
 -- The answer of a reader: a command that is as the fact says. If the reader refuses, there is no
 -- such command.
-abbrev pub Reads : (Command → Type 0) → Result Command LineFault → Type 0
-Reads IsSaid (Ok command) = IsSaid command
-Reads IsSaid (Err faults.NotACommand) = (command : Command) → IsSaid command → ⊥
-Reads IsSaid (Err faults.Memory) = Unit {0}
+abbrev pub ReadsCommand : (Command → Type 0) → Result Command LineFault → Type 0
+ReadsCommand IsSaid (Ok command) = IsSaid command
+ReadsCommand IsSaid (Err faults.NotACommand) = (command : Command) → IsSaid command → ⊥
+ReadsCommand IsSaid (Err faults.Memory) = Unit {0}

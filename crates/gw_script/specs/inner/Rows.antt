@@ -3,7 +3,7 @@ use Rattle.std.specs.Prelude.{◌≡◌, ◌+◌, ◌<◌, ◌≤◌, ◌⊎◌,
 use Rattle.gw_world.specs.declared.event.Call.{Call}
 use Rattle.gw_world.specs.declared.event.Call.TheVariants as calls
 use Rattle.gw_script.specs.declared.script.Script.{Script}
-use Rattle.gw_script.specs.Rows.{BeginsRow, SpellCalls, SpellsNoCall}
+use Rattle.gw_script.specs.Rows.{IsRowLine, SpellCalls, SpellsNoCall}
 use Rattle.gw_script.specs.Scripts.{Extends, with_row}
 
 -- the call holds no octets
@@ -25,7 +25,7 @@ IsNoCall gateway count lines before number =
 -- `next`, spell them. The second script says what the first says, and then these calls.
 abbrev pub RowRead : Script → List (List ℕ) → ℕ → Script → ℕ → Type 0
 RowRead old lines at new next =
-    (gateway : ℕ) × (calls : List Call) × BeginsRow (get_or lines at []) gateway (length calls)
+    (gateway : ℕ) × (calls : List Call) × IsRowLine (get_or lines at []) gateway (length calls)
     × SpellCalls gateway (take (length calls) (drop (at + 1) lines)) calls
     × (next ≡ at + length calls + 1) × (next ≤ length lines) × (new ≡ with_row old gateway calls)
 
@@ -38,11 +38,11 @@ LineRead old lines at new next =
 abbrev pub NoLineAt : Script → List (List ℕ) → ℕ → Type 0
 NoLineAt old lines at =
     ((after : Script) → Extends old (get_or lines at []) after → ⊥)
-    × ((gateway count : ℕ) → BeginsRow (get_or lines at []) gateway count → ⊥)
+    × ((gateway count : ℕ) → IsRowLine (get_or lines at []) gateway count → ⊥)
 
 -- The line at this place says that calls come together, and the line of this number, from 1, is the
 -- first behind it that is to spell one and does not.
 abbrev pub NoCallBehind : List (List ℕ) → ℕ → ℕ → Type 0
 NoCallBehind lines at number =
-    (gateway : ℕ) × (count : ℕ) × BeginsRow (get_or lines at []) gateway count
+    (gateway : ℕ) × (count : ℕ) × IsRowLine (get_or lines at []) gateway count
     × IsNoCall gateway count (drop (at + 1) lines) (at + 1) number

@@ -15,9 +15,9 @@ use Rattle.gw_serve.specs.inner.Queue.{hand}
 use Rattle.gw_serve.specs.Serving.{is_frame, Gains}
 
 -- so many numbers that follow each other, of which this is the first
-abbrev pub numbers_from : ℕ → ℕ → List ℕ
-numbers_from first zero = []
-numbers_from first (suc count) = first ∷ numbers_from (first + 1) count
+abbrev pub row_numbers_from : ℕ → ℕ → List ℕ
+row_numbers_from first zero = []
+row_numbers_from first (suc count) = first ∷ row_numbers_from (first + 1) count
 
 -- nothing was taken, and there is room for as many datagrams as the queue holds
 pub record IsEmptyRow (row : Row) : Type 0 where
@@ -27,18 +27,18 @@ pub record IsEmptyRow (row : Row) : Type 0 where
   pub called : CAPACITY ≤ vec_capacity row.called
 
 -- a row that was taken: each number has a step, which is a datagram's, and none is called yet
-pub record IsRow (row : Row) : Type 0 where
+pub record IsTakenRow (row : Row) : Type 0 where
   pub few : length row.numbers.items ≤ CAPACITY
   pub steps : length row.steps.items ≡ length row.numbers.items
   pub frames : All (λ (step : Step). is_frame step ≡ true) (map arc_value row.steps.items)
   pub called : (row.called.items ≡ []) × (CAPACITY ≤ vec_capacity row.called)
 
 -- these numbers were taken with the ticket
-abbrev pub HasTaken : Hand → List ℕ → Hand → Type 0
-HasTaken before numbers after = after ≡ hand before.parts before.sent (before.taken ++ numbers)
+abbrev pub TakesNumbers : Hand → List ℕ → Hand → Type 0
+TakesNumbers before numbers after = after ≡ hand before.parts before.sent (before.taken ++ numbers)
 
 -- The first datagrams of a row became these calls, in the row's order, and the pass gained them.
-pub record IsCalled (before : Holder) (numbers : List ℕ) (called : List Called)
+pub record AreCalled (before : Holder) (numbers : List ℕ) (called : List Called)
     (after : Holder) : Type 0 where
   pub few : length called ≤ length numbers
   pub datagrams : map (λ (c : Called). c.taken.datagram) called ≡ take (length called) numbers

@@ -21,6 +21,6 @@ IsElsewhere place [] = Unit {0}
 IsElsewhere place (pass ∷ rest) = (pass.place ≢ place) × IsElsewhere place rest
 
 -- no two of the passes have one place
-abbrev pub AreApart : List Holder → Type 0
-AreApart [] = Unit {0}
-AreApart (pass ∷ rest) = IsElsewhere pass.place rest × AreApart rest
+abbrev pub HavePlacesApart : List Holder → Type 0
+HavePlacesApart [] = Unit {0}
+HavePlacesApart (pass ∷ rest) = IsElsewhere pass.place rest × HavePlacesApart rest

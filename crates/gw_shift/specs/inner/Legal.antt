@@ -3,7 +3,7 @@ use Rattle.std.specs.Prelude.{◌≡◌, ◌≤◌, ◌+◌, List}
 use Rattle.rep_op.specs.declared.op.Op.{Op}
 use Rattle.rep_model.specs.Held.{IsHeld}
 use Rattle.jr_disk.specs.declared.disk.Disk.{Ghosts}
-use Rattle.jr_journal.specs.Parts.{disk_of}
+use Rattle.jr_journal.specs.Parts.{disk_under}
 use Rattle.gw_node.specs.Parts.{State}
 use Rattle.gw_shift.specs.Calls.{Call}
 use Rattle.gw_shift.specs.Legal.{Leads, calls_in, failed_in}
@@ -16,5 +16,5 @@ pub record IsLegalFrom {D : Type 0} {G : Ghosts D} (first : State G) (opening : 
   pub parts : List (List Call)
   pub whole : calls_in parts ≡ history
   pub leads : Leads first parts state
-  pub failures : G.failures (disk_of first.journal) + failed_in history
-      ≤ G.failures (disk_of state.journal)
+  pub failures : G.failures (disk_under first.journal) + failed_in history
+      ≤ G.failures (disk_under state.journal)

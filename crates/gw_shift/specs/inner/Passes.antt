@@ -10,20 +10,20 @@ use Rattle.gw_answer.specs.declared.refusal.Refusal.{Refusal}
 use Rattle.gw_shift.specs.Calls.{Call}
 
 -- the delta that a call made, if it made one
-abbrev pub made_of : Result Out Refusal → Option (List Op)
-made_of (Ok out) = out.made
-made_of (Err refusal) = None
+abbrev pub delta_made : Result Out Refusal → Option (List Op)
+delta_made (Ok out) = out.made
+delta_made (Err refusal) = None
 
 -- the delta under its number, in front of the others; without one they stay as they are
-abbrev pub noted : ℕ → Option (List Op) → List (ℕ × List Op) → List (ℕ × List Op)
-noted number None rest = rest
-noted number (Some delta) rest = (number, delta) ∷ rest
+abbrev pub delta_noted : ℕ → Option (List Op) → List (ℕ × List Op) → List (ℕ × List Op)
+delta_noted number None rest = rest
+delta_noted number (Some delta) rest = (number, delta) ∷ rest
 
 -- the deltas that the calls made, with their numbers, which begin after this one
 abbrev pub made_after : ℕ → List Call → List (ℕ × List Op)
 made_after before [] = []
 made_after before (call ∷ calls) =
-    noted (before + 1) (made_of call.answer) (made_after (before + 1) calls)
+    delta_noted (before + 1) (delta_made call.answer) (made_after (before + 1) calls)
 
 -- a call as a history holds it
 abbrev pub call : ℕ → Step → Result Out Refusal → Call
@@ -39,4 +39,4 @@ calls_of place (step ∷ steps) (answer ∷ answers) =
 -- the deltas that shares of answers hold, with their numbers
 abbrev pub told_by : List (ℕ × Arc Out Global) → List (ℕ × List Op)
 told_by [] = []
-told_by (share ∷ rest) = noted share.0 (arc_value share.1).made (told_by rest)
+told_by (share ∷ rest) = delta_noted share.0 (arc_value share.1).made (told_by rest)

@@ -7,7 +7,7 @@ use Rattle.rep_op.specs.declared.op.Op.{Op}
 use Rattle.rep_ops.specs.Spelling.{max_octets}
 use Rattle.rep_answer.specs.Answers.{IsAnswer}
 use Rattle.rep_digest.specs.Digests.{Digested, digest}
-use Rattle.rep_digest.specs.Spelling.{spelling, IsWithinLimit as IsDigestWithinLimit}
+use Rattle.rep_digest.specs.Spelling.{digest_spelling, IsDigestWithinLimit}
 use Rattle.sn_local.specs.declared.config.Config.{Config}
 use Rattle.jr_disk.specs.declared.disk.Disk.{Ghosts}
 use Rattle.rep_model.specs.Topics.{all_retained}
@@ -18,11 +18,11 @@ use Rattle.gw_answer.specs.declared.step.Step.{Step}
 use Rattle.gw_answer.specs.declared.step.Step.TheVariants as steps
 use Rattle.gw_event.specs.Event.{StepOf, Event as CallEvent, IsWritable}
 use Rattle.gw_event.specs.Together.{InTurnBy, Together}
-use Rattle.jr_disk.specs.declared.disk.Plan.{Plan as Failure}
+use Rattle.jr_disk.specs.declared.disk.Failure.{Failure}
 use Rattle.gw_event.specs.Gateways.{Gateway}
 use Rattle.gw_node.specs.Parts.{State}
 use Rattle.gw_answer.specs.Answers.{said, only_sends}
-use Rattle.gw_node.specs.Standing.{Agrees, fated}
+use Rattle.gw_node.specs.Standing.{CallAgrees, with_failure}
 use Rattle.gw_world.specs.declared.event.Event.{Event}
 use Rattle.gw_world.specs.declared.event.Event.TheVariants.{Frame, Tick, Take, Together as AtOnce, Answer as Asks, WriteFails, Compact, Restart, Show}
 use Rattle.gw_world.specs.declared.event.Call.{Call}
@@ -33,21 +33,14 @@ use Rattle.gw_world.specs.declared.world.WorldFault.{WorldFault}
 use Rattle.gw_world.specs.declared.world.WorldFault.TheVariants as stops
 use Rattle.gw_world.specs.Events.{made_of, answered_of}
 use Rattle.gw_world.specs.Whole.{made_of_all}
-use Rattle.gw_world.specs.Field.{Field, new_field, AreStepsOf, AreFed, Run, NamesNoGateway, NamesNoDelta, shown, gateway_of, failing}
+use Rattle.gw_world.specs.Field.{Field, new_field, AreStepsOf, AreFed, Run, NamesNoGateway, NamesNoDelta, shown, gateway_of_event, failing_gateway}
 use Rattle.gw_world.specs.Keeping.{IsShown, AreShown}
 use Rattle.gw_world.specs.Steps.{restarted, records_left}
 
 -- memory did not run out
 abbrev pub IsFed : Result Out Refusal → Type 0
-IsFed (Ok out) = Unit {0}
 IsFed (Err refusals.Memory) = ⊥
-IsFed (Err (refusals.Frame fault)) = Unit {0}
-IsFed (Err refusals.Halted) = Unit {0}
-IsFed (Err (refusals.Disk excuse)) = Unit {0}
-IsFed (Err (refusals.Conflict client)) = Unit {0}
-IsFed (Err refusals.Full) = Unit {0}
-IsFed (Err refusals.Exhausted) = Unit {0}
-IsFed (Err (refusals.Journal fault)) = Unit {0}
+IsFed answer = Unit {0}
 
 -- ---- one node
 
@@ -55,7 +48,7 @@ IsFed (Err (refusals.Journal fault)) = Unit {0}
 abbrev pub GoesOn : {D : Type 0} {G : Ghosts D} → State G → Step → Result Out Refusal → State G
     → Type 0
 GoesOn old step answer new =
-    (gateway : Gateway) → IsShown gateway old → Agrees gateway step
+    (gateway : Gateway) → IsShown gateway old → CallAgrees gateway step
     → (next : Gateway) × (made : List (List Op)) × StepOf gateway step answer next made
     × IsShown next new
 
@@ -69,9 +62,9 @@ IsNoFailure answer = Unit {0}
 abbrev pub AgreeAlong : Gateway → List Step → Type 0
 AgreeAlong gateway [] = Unit {0}
 AgreeAlong gateway (step ∷ rest) =
-    Agrees gateway step
+    CallAgrees gateway step
     × ((fate : Option Failure) (answer : Result Out Refusal) (next : Gateway)
-    (made : List (List Op)) → CallEvent (fated fate gateway) step answer next made
+    (made : List (List Op)) → CallEvent (with_failure fate gateway) step answer next made
     → AgreeAlong next rest)
 
 -- whatever gateway the node stood for, it does these calls with one write, and the node stands for
@@ -107,41 +100,30 @@ StartsAgain old kept count new =
 -- the next write of the node is to fail
 abbrev pub FailsNext : {D : Type 0} {G : Ghosts D} → State G → ℕ → Bool → State G → Type 0
 FailsNext old bytes sync new =
-    (gateway : Gateway) → IsShown gateway old → IsShown (failing bytes sync gateway) new
+    (gateway : Gateway) → IsShown gateway old → IsShown (failing_gateway bytes sync gateway) new
 
 -- the node stands for some gateway
 abbrev pub IsStood : {D : Type 0} {G : Ghosts D} → State G → Type 0
 IsStood state = (gateway : Gateway) × IsShown gateway state
 
 -- what a peer answers to a digest, by what it keeps
-abbrev pub IsAnswered : Digested → List Op → Result Out Refusal → Type 0
-IsAnswered asked kept (Ok out) =
+abbrev pub AnswersDigest : Digested → List Op → Result Out Refusal → Type 0
+AnswersDigest asked kept (Ok out) =
     IsAnswer asked kept out.answer × (out ≡ record (only_sends []) { answer = out.answer })
-IsAnswered asked kept (Err refusal) = ⊥
+AnswersDigest asked kept (Err refusal) = ⊥
 
 -- why a gateway gives no digest: it is too long, or memory ran out
 abbrev pub IsNoDigest : Refusal → Type 0
 IsNoDigest refusals.Full = Unit {0}
 IsNoDigest refusals.Memory = Unit {0}
-IsNoDigest (refusals.Frame fault) = ⊥
-IsNoDigest refusals.Halted = ⊥
-IsNoDigest (refusals.Disk excuse) = ⊥
-IsNoDigest (refusals.Conflict client) = ⊥
-IsNoDigest refusals.Exhausted = ⊥
-IsNoDigest (refusals.Journal fault) = ⊥
+IsNoDigest refusal = ⊥
 
 -- what the digest of what is kept comes to at a peer, by what that one keeps
 abbrev pub AskKept : List Op → List Op → Result Out Refusal → Type 0
 AskKept kept other (Ok out) =
-    IsDigestWithinLimit (digest kept) × IsAnswered (digest kept) other (Ok out)
-AskKept kept other (Err refusals.Full) = max_octets < length (spelling (digest kept))
-AskKept kept other (Err (refusals.Frame fault)) = ⊥
-AskKept kept other (Err refusals.Halted) = ⊥
-AskKept kept other (Err (refusals.Disk excuse)) = ⊥
-AskKept kept other (Err (refusals.Conflict client)) = ⊥
-AskKept kept other (Err refusals.Exhausted) = ⊥
-AskKept kept other (Err (refusals.Journal fault)) = ⊥
-AskKept kept other (Err refusals.Memory) = ⊥
+    IsDigestWithinLimit (digest kept) × AnswersDigest (digest kept) other (Ok out)
+AskKept kept other (Err refusals.Full) = max_octets < length (digest_spelling (digest kept))
+AskKept kept other answer = ⊥
 
 -- ---- nodes in their places
 
@@ -168,7 +150,8 @@ StepsAt olds i step answer news = Moves olds i (λ old new. GoesOn old step answ
 -- the i-th node answers these calls so, which have one write, and no other node changes
 abbrev pub RowAt : {D : Type 0} {G : Ghosts D} → List (State G) → ℕ → List Step
     → List (Result Out Refusal) → List (State G) → Type 0
-RowAt olds i called answers news = Moves olds i (λ old new. GoesTogether old called answers new) news
+RowAt olds i called answers news =
+    Moves olds i (λ old new. GoesTogether old called answers new) news
 
 -- the digest of the i-th node goes to the j-th
 abbrev pub AskAt : {D : Type 0} {G : Ghosts D} → List (State G) → ℕ → ℕ → Result Out Refusal
@@ -188,19 +171,13 @@ abbrev pub OwnAnswered : {D : Type 0} {G : Ghosts D} → List (State G) → List
     → List (State G) → List (List Op) → Answer → Type 0
 OwnAnswered olds deltas i step news next (Node answer) =
     StepsAt olds i step (said answer) news × Join deltas (made_of (said answer)) next
-OwnAnswered olds deltas i step news next (Views views topics) = ⊥
-OwnAnswered olds deltas i step news next (Records count) = ⊥
-OwnAnswered olds deltas i step news next (Row answers) = ⊥
-OwnAnswered olds deltas i step news next Nothing = ⊥
+OwnAnswered olds deltas i step news next answer = ⊥
 
 -- the answer to a delta or a compaction
 abbrev pub StepAnswered : {D : Type 0} {G : Ghosts D} → List (State G) → ℕ → Step → List (State G)
     → Answer → Type 0
 StepAnswered olds i step news (Node answer) = StepsAt olds i step (said answer) news
-StepAnswered olds i step news (Views views topics) = ⊥
-StepAnswered olds i step news (Records count) = ⊥
-StepAnswered olds i step news (Row answers) = ⊥
-StepAnswered olds i step news Nothing = ⊥
+StepAnswered olds i step news answer = ⊥
 
 -- a field of which nothing is known but its list
 abbrev pub listing : List (List Op) → Field
@@ -213,40 +190,28 @@ RowAnswered olds deltas i calls news next (Row answers) =
     (called : List Step) × AreStepsOf (listing deltas) calls called
     × RowAt olds i called (map said answers) news
     × Join deltas (made_of_all (map said answers)) next
-RowAnswered olds deltas i calls news next (Node answer) = ⊥
-RowAnswered olds deltas i calls news next (Views views topics) = ⊥
-RowAnswered olds deltas i calls news next (Records count) = ⊥
-RowAnswered olds deltas i calls news next Nothing = ⊥
+RowAnswered olds deltas i calls news next answer = ⊥
 
 -- the answer to a restart
 abbrev pub RestartAnswered : {D : Type 0} {G : Ghosts D} → List (State G) → ℕ → ℕ → List (State G)
     → Answer → Type 0
 RestartAnswered olds i kept news (Records count) =
     Moves olds i (λ old new. StartsAgain old kept count new) news
-RestartAnswered olds i kept news (Node answer) = ⊥
-RestartAnswered olds i kept news (Row answers) = ⊥
-RestartAnswered olds i kept news (Views views topics) = ⊥
-RestartAnswered olds i kept news Nothing = ⊥
+RestartAnswered olds i kept news answer = ⊥
 
 -- the answer if a failure is arranged
 abbrev pub FailAnswered : {D : Type 0} {G : Ghosts D} → List (State G) → ℕ → ℕ → Bool
     → List (State G) → Answer → Type 0
 FailAnswered olds i bytes sync news Nothing =
     Moves olds i (λ old new. FailsNext old bytes sync new) news
-FailAnswered olds i bytes sync news (Node answer) = ⊥
-FailAnswered olds i bytes sync news (Views views topics) = ⊥
-FailAnswered olds i bytes sync news (Records count) = ⊥
-FailAnswered olds i bytes sync news (Row answers) = ⊥
+FailAnswered olds i bytes sync news answer = ⊥
 
 -- the answer of a peer in its place to the digest of the i-th node, and the list of deltas after it
 abbrev pub AskAnswered : {D : Type 0} {G : Ghosts D} → List (State G) → List (List Op) → ℕ → ℕ
     → List (List Op) → Answer → Type 0
 AskAnswered olds deltas i j next (Node answer) =
     AskAt olds i j (said answer) × Join deltas (answered_of (said answer)) next
-AskAnswered olds deltas i j next (Views views topics) = ⊥
-AskAnswered olds deltas i j next (Records count) = ⊥
-AskAnswered olds deltas i j next (Row answers) = ⊥
-AskAnswered olds deltas i j next Nothing = ⊥
+AskAnswered olds deltas i j next answer = ⊥
 
 -- the answer of the peer of this number to the digest of the i-th node, and the list of deltas
 -- after it
@@ -257,13 +222,10 @@ PeerAnswered olds deltas i peer next answer =
 
 -- what a node shows
 abbrev pub ShowAnswered : {D : Type 0} {G : Ghosts D} → List (State G) → ℕ → Answer → Type 0
-ShowAnswered olds i (Node answer) = ⊥
-ShowAnswered olds i (Records count) = ⊥
-ShowAnswered olds i (Row answers) = ⊥
-ShowAnswered olds i Nothing = ⊥
 ShowAnswered {G = G} olds i (Views views topics) =
     (state : State G) × (slice_get olds i ≡ Some state)
     × (views ≡ shown state.kept) × (topics ≡ all_retained state.kept)
+ShowAnswered olds i answer = ⊥
 
 -- the delta of this number; the first has number 1
 abbrev pub IsListed : List (List Op) → ℕ → List Op → Type 0
@@ -296,7 +258,7 @@ EventAt olds deltas i (Show number) news next answer =
 abbrev pub EventPlayed : {D : Type 0} {G : Ghosts D} → List (State G) → List (List Op) → Event
     → List (State G) → List (List Op) → Answer → Type 0
 EventPlayed olds deltas event news next answer =
-    (i : ℕ) × (place_in (gateway_of event) 0 olds ≡ Some i)
+    (i : ℕ) × (place_in (gateway_of_event event) 0 olds ≡ Some i)
     × EventAt olds deltas i event news next answer
 
 -- ---- events without an answer
@@ -337,12 +299,7 @@ IsMissing olds deltas (Asks gateway peer) number fault = NoPeer olds peer number
 IsMissing olds deltas (Take gateway delta) number fault = NoDelta deltas delta number fault
 IsMissing olds deltas (AtOnce gateway calls) number fault =
     CallsMissing deltas calls number fault
-IsMissing olds deltas (Frame gateway from bytes now) number fault = fault ≡ stops.Memory
-IsMissing olds deltas (Tick gateway now) number fault = fault ≡ stops.Memory
-IsMissing olds deltas (WriteFails gateway bytes sync) number fault = fault ≡ stops.Memory
-IsMissing olds deltas (Compact gateway) number fault = fault ≡ stops.Memory
-IsMissing olds deltas (Restart gateway kept) number fault = fault ≡ stops.Memory
-IsMissing olds deltas (Show gateway) number fault = fault ≡ stops.Memory
+IsMissing olds deltas event number fault = fault ≡ stops.Memory
 
 -- why the event of this number stops a run
 abbrev pub IsStopped : {D : Type 0} {G : Ghosts D} → List (State G) → List (List Op) → Event → ℕ

@@ -8,21 +8,19 @@ use Rattle.jr_journal.specs.inner.Disk.{synced_part}
 use Rattle.jr_journal.specs.Records.{slot_content, generation_in}
 use Rattle.jr_journal.specs.Faults.{is_nil, fault_of}
 use Rattle.jr_journal.specs.inner.Faults.{is_none}
-use Rattle.jr_journal.specs.Journals.{other}
+use Rattle.jr_journal.specs.Journals.{other_slot}
 
 -- nothing is read of the slot beside a sealed one of this generation
-abbrev pub is_below : SlotContent → ℕ → Bool
-is_below (Sealed n g) generation = nat_lt n generation
-is_below Unsealed generation = true
-is_below Alien generation = false
-is_below (Broken from) generation = false
+abbrev pub is_older : SlotContent → ℕ → Bool
+is_older (Sealed n g) generation = nat_lt n generation
+is_older Unsealed generation = true
+is_older Alien generation = false
+is_older (Broken from) generation = false
 
 -- a slot of so many bytes is read, it ends with a whole piece, and beside it the other is not read
 abbrev pub leads : SlotContent → ℕ → SlotContent → Bool
-leads (Sealed generation f) size beside = (13 + f.whole == size) && is_below beside generation
-leads Alien size beside = false
-leads Unsealed size beside = false
-leads (Broken from) size beside = false
+leads (Sealed generation f) size beside = (13 + f.whole == size) && is_older beside generation
+leads content size beside = false
 
 -- all is synced, the slot in use is the one that is read and ends with a whole piece, and there is
 -- no fault
@@ -30,7 +28,7 @@ abbrev pub is_settled : ℕ → Slot → Slots → Bool
 is_settled gateway slot d =
     is_nil d.first.unsynced && is_nil d.second.unsynced
     && leads (slot_content gateway (at d slot).synced) (length (at d slot).synced)
-    (slot_content gateway (at d (other slot)).synced)
+    (slot_content gateway (at d (other_slot slot)).synced)
     && is_none (fault_of gateway (synced_part d))
 
 -- the journal is settled, and this is the generation of the slot in use

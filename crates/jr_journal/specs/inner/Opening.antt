@@ -4,7 +4,7 @@ use Rattle.rep_op.specs.declared.op.Op.{Op}
 use Rattle.jr_disk.specs.declared.disk.Slot.{Slot}
 use Rattle.jr_disk.specs.declared.disk.Slot.TheVariants.{First, Second}
 use Rattle.jr_journal.specs.declared.content.SlotContent.{SlotContent}
-use Rattle.jr_journal.specs.declared.content.SlotContent.TheVariants.{Alien, Unsealed, Sealed, Broken}
+use Rattle.jr_journal.specs.declared.content.SlotContent.TheVariants.{Sealed}
 use Rattle.jr_journal.specs.declared.opening.Opening.{Opening}
 use Rattle.jr_journal.specs.declared.opening.Opening.TheVariants.{New, Held}
 use Rattle.jr_disk.specs.Disk.{Slots, Image, at, replaced, bytes_of, cut_to}
@@ -17,16 +17,14 @@ abbrev pub synced_image : Image → Slots
 synced_image i = record { first = synced_bytes i.first; second = synced_bytes i.second }
 
 -- the journal goes on in a slot of so many bytes, if it is sealed
-abbrev pub held_of : Slot → SlotContent → ℕ → Opening
-held_of slot (Sealed m f) size = Held slot m f size
-held_of slot Alien size = New
-held_of slot Unsealed size = New
-held_of slot (Broken at) size = New
+abbrev pub held_in_slot : Slot → SlotContent → ℕ → Opening
+held_in_slot slot (Sealed m f) size = Held slot m f size
+held_in_slot slot content size = New
 
 -- what is to be done with two slots of so many bytes that have no fault
 abbrev pub opening_of : SlotContent → ℕ → SlotContent → ℕ → Opening
 opening_of a size b beside =
-    if reads_first a b then held_of First a size else held_of Second b beside
+    if reads_first a b then held_in_slot First a size else held_in_slot Second b beside
 
 -- the deltas that an opening gives; none if it begins a new journal
 abbrev pub deltas_of : Opening → List (List Op)
@@ -34,14 +32,14 @@ deltas_of New = []
 deltas_of (Held slot m f size) = f.deltas
 
 -- the slot that the journal goes on in; the first if it is new
-abbrev pub place_of : Opening → Slot
-place_of New = First
-place_of (Held slot m f size) = slot
+abbrev pub opening_slot : Opening → Slot
+opening_slot New = First
+opening_slot (Held slot m f size) = slot
 
 -- the generation that the journal goes on in; 1 if it is new
-abbrev pub number_of : Opening → ℕ
-number_of New = 1
-number_of (Held slot m f size) = m
+abbrev pub opening_generation : Opening → ℕ
+opening_generation New = 1
+opening_generation (Held slot m f size) = m
 
 -- the slots have no fault, and this is to be done with them
 abbrev pub IsOpening : ℕ → Image → Opening → Type 0

@@ -2,18 +2,18 @@
 
 ghost use Rattle.std.specs.Prelude.{◌≡◌};
 ghost use Rattle.mq_packet.specs.inner.Reading as spec;
-ghost use Rattle.mq_packet.specs.inner.Reading.{Gives, publication, read_conn_ack, read_once, read_acknowledged, read_subscribe, read_sub_ack, read_unsubscribe};
+ghost use Rattle.mq_packet.specs.inner.Reading.{ReadsPacket, publish_packet, read_conn_ack, read_once, read_acknowledged, read_subscribe, read_sub_ack_packet, read_unsubscribe};
 
-use crate::decoder::parts::{data, id, qos_at};
+use crate::decoder::parts::{data, id, qos_of_number};
 use crate::fault::PacketFault;
 use crate::packet::{Delivery, Packet, Qos};
-use crate::text::{is_filter, is_topic};
+use crate::text::{is_filter_text, is_topic_text};
 use octets::Octets;
 use std::alloc::Global;
 
 /// CONNACK.
 pub(super) fn conn_ack(body: &[u8]) -> Result<Packet, PacketFault>
-    ensures { Gives (read_conn_ack body.now) result }
+    ensures { ReadsPacket (read_conn_ack body.now) result }
 {
     let [flags, code] = body else {
         return Err(PacketFault::Body);
@@ -41,9 +41,9 @@ fn publish(
     topic: &[u8],
     message: &[u8],
 ) -> Result<Packet, PacketFault>
-    ensures { Gives (publication delivery retain topic.now message.now) result }
+    ensures { ReadsPacket (publish_packet delivery retain topic.now message.now) result }
 {
-    if !is_topic(topic) {
+    if !is_topic_text(topic) {
         return Err(PacketFault::Body);
     }
     Ok(Packet::Publish {
@@ -56,7 +56,7 @@ fn publish(
 
 /// PUBLISH at quality of service 0.
 pub(super) fn publish_once(alloc: Global, retain: bool, body: &[u8]) -> Result<Packet, PacketFault>
-    ensures { Gives (read_once retain body.now) result }
+    ensures { ReadsPacket (read_once retain body.now) result }
 {
     let Some((topic, message)) = data(body) else {
         return Err(PacketFault::Body);
@@ -71,7 +71,7 @@ pub(super) fn publish_acknowledged(
     retain: bool,
     body: &[u8],
 ) -> Result<Packet, PacketFault>
-    ensures { Gives (read_acknowledged dup retain body.now) result }
+    ensures { ReadsPacket (read_acknowledged dup retain body.now) result }
 {
     let Some((topic, rest)) = data(body) else {
         return Err(PacketFault::Body);
@@ -90,7 +90,7 @@ pub(super) fn publish_acknowledged(
 
 /// SUBSCRIBE.
 pub(super) fn subscribe(alloc: Global, body: &[u8]) -> Result<Packet, PacketFault>
-    ensures { Gives (read_subscribe body.now) result }
+    ensures { ReadsPacket (read_subscribe body.now) result }
 {
     let Some((id, rest)) = id(body) else {
         return Err(PacketFault::Body);
@@ -98,13 +98,13 @@ pub(super) fn subscribe(alloc: Global, body: &[u8]) -> Result<Packet, PacketFaul
     let Some((filter, rest)) = data(rest) else {
         return Err(PacketFault::Body);
     };
-    if !is_filter(filter) {
+    if !is_filter_text(filter) {
         return Err(PacketFault::Body);
     }
     let [octet] = rest else {
         return Err(PacketFault::Body);
     };
-    let Some(qos) = qos_at(*octet) else {
+    let Some(qos) = qos_of_number(*octet) else {
         return Err(PacketFault::Body);
     };
     let filter = Octets::from_slice(alloc, filter)?;
@@ -118,7 +118,7 @@ fn grant_at(octet: u8) -> Option<Option<Qos>>
     if octet == 0x80 {
         return Some(None);
     }
-    match qos_at(octet) {
+    match qos_of_number(octet) {
         None => None,
         Some(qos) => Some(Some(qos)),
     }
@@ -126,7 +126,7 @@ fn grant_at(octet: u8) -> Option<Option<Qos>>
 
 /// SUBACK.
 pub(super) fn sub_ack(body: &[u8]) -> Result<Packet, PacketFault>
-    ensures { Gives (read_sub_ack body.now) result }
+    ensures { ReadsPacket (read_sub_ack_packet body.now) result }
 {
     let Some((id, rest)) = id(body) else {
         return Err(PacketFault::Body);
@@ -142,7 +142,7 @@ pub(super) fn sub_ack(body: &[u8]) -> Result<Packet, PacketFault>
 
 /// UNSUBSCRIBE.
 pub(super) fn unsubscribe(alloc: Global, body: &[u8]) -> Result<Packet, PacketFault>
-    ensures { Gives (read_unsubscribe body.now) result }
+    ensures { ReadsPacket (read_unsubscribe body.now) result }
 {
     let Some((id, rest)) = id(body) else {
         return Err(PacketFault::Body);
@@ -150,7 +150,7 @@ pub(super) fn unsubscribe(alloc: Global, body: &[u8]) -> Result<Packet, PacketFa
     let Some((filter, rest)) = data(rest) else {
         return Err(PacketFault::Body);
     };
-    if !is_filter(filter) || !rest.is_empty() {
+    if !is_filter_text(filter) || !rest.is_empty() {
         return Err(PacketFault::Body);
     }
     let filter = Octets::from_slice(alloc, filter)?;

@@ -2,13 +2,13 @@
 
 ghost use Rattle.std.specs.Prelude.{◌≡◌, IfOk, MatchOption, Some, None};
 ghost use Rattle.mq_packet.specs.inner.Reading as spec;
-ghost use Rattle.mq_packet.specs.inner.Reading.{Gives, Parts, connection, login_made, past_protocol, read_connect, read_connection, read_data_if, read_marked, read_parts, will_made};
+ghost use Rattle.mq_packet.specs.inner.Reading.{ReadsPacket, ConnectStrings, connection, login_made, past_protocol, read_connect_packet, read_connection, read_data_if, read_marked, read_parts, will_made};
 
-use crate::decoder::parts::{data, number};
+use crate::decoder::parts::{data, number_of_two};
 use crate::fault::PacketFault;
 use crate::marks::{Marks, read_marks};
 use crate::packet::{Login, Packet, Qos, Will};
-use crate::text::{is_text, is_topic};
+use crate::text::{is_text, is_topic_text};
 use octets::{NoMemory, Octets};
 use std::alloc::Global;
 
@@ -27,7 +27,7 @@ struct Strings<'a> {
 
 /// CONNECT.
 pub(super) fn connect(alloc: Global, body: &[u8]) -> Result<Packet, PacketFault>
-    ensures { Gives (read_connect body.now) result }
+    ensures { ReadsPacket (read_connect_packet body.now) result }
 {
     match after_protocol(body) {
         None => Err(PacketFault::Body),
@@ -53,14 +53,14 @@ fn after_protocol(body: &[u8]) -> Option<&[u8]>
 
 /// CONNECT after the protocol: flags, time, strings.
 fn marked(alloc: Global, rest: &[u8]) -> Result<Packet, PacketFault>
-    ensures { Gives (read_marked rest.now) result }
+    ensures { ReadsPacket (read_marked rest.now) result }
 {
     let [bits, high, low, payload @ ..] = rest else {
         return Err(PacketFault::Body);
     };
     match read_marks(*bits) {
         None => Err(PacketFault::Body),
-        Some(marks) => with_marks(alloc, marks, number(*high, *low), payload),
+        Some(marks) => with_marks(alloc, marks, number_of_two(*high, *low), payload),
     }
 }
 
@@ -71,7 +71,7 @@ fn with_marks(
     keep_alive: u16,
     payload: &[u8],
 ) -> Result<Packet, PacketFault>
-    ensures { Gives (read_connection marks keep_alive payload.now) result }
+    ensures { ReadsPacket (read_connection marks keep_alive payload.now) result }
 {
     let Some(strings) = strings_of(marks, payload) else {
         return Err(PacketFault::Body);
@@ -97,7 +97,7 @@ fn data_if(is_there: bool, octets: &[u8]) -> Option<(&[u8], &[u8])>
 /// The strings that the flags say are there, up to the end.
 fn strings_of(marks: Marks, payload: &[u8]) -> Option<Strings<'_>>
     ensures { MatchOption result (read_parts marks payload.now ≡ None)
-        (λ s. let parts : Parts =
+        (λ s. let parts : ConnectStrings =
         (s.client.now, s.topic.now, s.message.now, s.user.now, s.password.now) in
         read_parts marks payload.now ≡ Some parts) }
 {
@@ -140,7 +140,7 @@ fn are_good(marks: Marks, strings: Strings<'_>) -> bool
     ) }
 {
     is_text(strings.client)
-        && (marks.will.is_none() || is_topic(strings.topic))
+        && (marks.will.is_none() || is_topic_text(strings.topic))
         && (marks.login.is_none() || is_text(strings.user))
 }
 
@@ -151,7 +151,7 @@ fn made(
     keep_alive: u16,
     strings: Strings<'_>,
 ) -> Result<Packet, NoMemory>
-    ensures { let parts : Parts = (
+    ensures { let parts : ConnectStrings = (
       strings.entry.client.now,
       strings.entry.topic.now,
       strings.entry.message.now,

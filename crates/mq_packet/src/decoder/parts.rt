@@ -2,15 +2,15 @@
 
 ghost use Rattle.std.specs.Prelude.{◌≡◌, MatchOption, Some, None};
 ghost use Rattle.mq_packet.specs.inner.Reading as spec;
-ghost use Rattle.mq_packet.specs.inner.Reading.{Gives, read_bare, read_data, read_id, read_only_id};
+ghost use Rattle.mq_packet.specs.inner.Reading.{ReadsPacket, read_no_body, read_data, read_id, read_only_id};
 
 use crate::fault::PacketFault;
 use crate::packet::{Packet, Qos};
 use byteorder::{BigEndian, ByteOrder};
 
 /// The number in two octets.
-pub(super) fn number(high: u8, low: u8) -> u16
-    ensures { result ≡ spec.number high low }
+pub(super) fn number_of_two(high: u8, low: u8) -> u16
+    ensures { result ≡ spec.number_of_two high low }
 {
     BigEndian::read_u16(&[high, low])
 }
@@ -23,7 +23,7 @@ pub(super) fn data(octets: &[u8]) -> Option<(&[u8], &[u8])>
     let [high, low, rest @ ..] = octets else {
         return None;
     };
-    let size = usize::from(number(*high, *low));
+    let size = usize::from(number_of_two(*high, *low));
     if size <= rest.len() {
         Some(rest.split_at(size))
     } else {
@@ -39,7 +39,7 @@ pub(super) fn id(octets: &[u8]) -> Option<(u16, &[u8])>
     let [high, low, rest @ ..] = octets else {
         return None;
     };
-    let id = number(*high, *low);
+    let id = number_of_two(*high, *low);
     if id == 0 { None } else { Some((id, rest)) }
 }
 
@@ -52,8 +52,8 @@ pub(super) fn only_id(octets: &[u8]) -> Option<u16>
 }
 
 /// A quality of service by its number.
-pub(super) fn qos_at(octet: u8) -> Option<Qos>
-    ensures { result ≡ spec.qos_at octet }
+pub(super) fn qos_of_number(octet: u8) -> Option<Qos>
+    ensures { result ≡ spec.qos_of_number octet }
 {
     match octet {
         0 => Some(Qos::Zero),
@@ -64,7 +64,7 @@ pub(super) fn qos_at(octet: u8) -> Option<Qos>
 
 /// This packet, which has no body.
 pub(super) fn bare(body: &[u8], packet: Packet) -> Result<Packet, PacketFault>
-    ensures { Gives (read_bare body.now packet) result }
+    ensures { ReadsPacket (read_no_body body.now packet) result }
 {
     match body {
         [] => Ok(packet),

@@ -2,8 +2,8 @@
 
 ghost use Rattle.std.specs.Prelude.{◌≡◌, ◌≢◌, ◌<◌, ◌++◌, ◌↔◌, ◌⊎◌, IfOk, OnOk, OnErr, Err, IsTrue, IfSome};
 ghost use Rattle.mq_packet.specs.declared.packet.TheConstants.{MAX_REMAINING};
-ghost use Rattle.mq_packet.specs.Bodies.{IsAnswer, IsDelivery, IsLogin, IsMessage, IsWill, body_of};
-ghost use Rattle.mq_packet.specs.Grammar.{size_of, spelling};
+ghost use Rattle.mq_packet.specs.Bodies.{IsConnAckCode, IsDelivery, IsLogin, IsAllowedPacket, IsWill, packet_body};
+ghost use Rattle.mq_packet.specs.Grammar.{packet_size, packet_spelling};
 ghost use Rattle.mq_packet.specs.Text.{IsData};
 
 use crate::encoder::fronts::{connect, octets_of, publish, sub_ack, subscribe, unsubscribe};
@@ -11,13 +11,13 @@ use crate::encoder::whole::append_spelling;
 use crate::fault::EncodeFault;
 use crate::marks::bit;
 use crate::packet::{Delivery, Login, MAX_DATA, Packet, Will};
-use crate::text::{is_filter, is_text, is_topic};
+use crate::text::{is_filter_text, is_text, is_topic_text};
 use octets::Octets;
 use std::alloc::{AllocError, Global};
 
 /// Whether the packet's parts have values that MQTT 3.1.1 allows.
 pub(super) fn is_message(packet: &Packet) -> bool
-    ensures { IsTrue result ↔ IsMessage packet.now }
+    ensures { IsTrue result ↔ IsAllowedPacket packet.now }
 {
     match packet {
         Packet::Connect {
@@ -31,9 +31,9 @@ pub(super) fn is_message(packet: &Packet) -> bool
             delivery,
             topic,
             ..
-        } => { is_delivery(*delivery) && is_topic(topic.as_slice()) }
+        } => { is_delivery(*delivery) && is_topic_text(topic.as_slice()) }
         Packet::Subscribe { id, filter, .. } | Packet::Unsubscribe { id, filter } => {
-            *id != 0 && is_filter(filter.as_slice())
+            *id != 0 && is_filter_text(filter.as_slice())
         }
         Packet::PubAck { id } | Packet::SubAck { id, .. } | Packet::UnsubAck { id } => *id != 0,
         Packet::PingReq | Packet::PingResp | Packet::Disconnect => true,
@@ -46,7 +46,7 @@ fn are_wills(will: &Option<Will>) -> bool
 {
     match will {
         None => true,
-        Some(will) => is_topic(will.topic.as_slice()) && will.message.len() <= MAX_DATA,
+        Some(will) => is_topic_text(will.topic.as_slice()) && will.message.len() <= MAX_DATA,
     }
 }
 
@@ -72,7 +72,7 @@ fn are_few(octets: &Option<Octets>) -> bool
 
 /// Whether CONNACK may say so.
 fn is_answer(session: bool, code: u8) -> bool
-    ensures { IsTrue result ↔ IsAnswer session code }
+    ensures { IsTrue result ↔ IsConnAckCode session code }
 {
     if session { code == 0 } else { code <= 5 }
 }
@@ -94,11 +94,11 @@ fn append_made(
     made: Result<Vec<u8>, AllocError>,
     tail: &[u8],
 ) -> Result<(), EncodeFault>
-    requires { IfOk made (λ front. body_of packet.now ≡ front.items ++ tail.now) }
-    ensures ok { OnOk result (out.new.items ≡ out.old.items ++ spelling packet.now) }
+    requires { IfOk made (λ front. packet_body packet.now ≡ front.items ++ tail.now) }
+    ensures ok { OnOk result (out.new.items ≡ out.old.items ++ packet_spelling packet.now) }
     ensures body { result ≢ Err EncodeFault.Body }
-    ensures too_long { result ≡ Err EncodeFault.TooLong → MAX_REMAINING < size_of packet.now }
-    ensures refused { MAX_REMAINING < size_of packet.now
+    ensures too_long { result ≡ Err EncodeFault.TooLong → MAX_REMAINING < packet_size packet.now }
+    ensures refused { MAX_REMAINING < packet_size packet.now
         → (result ≡ Err EncodeFault.TooLong) ⊎ (result ≡ Err EncodeFault.Memory) }
     ensures err { OnErr result (out.new.items ≡ out.old.items) }
 {
@@ -113,11 +113,11 @@ pub(super) fn append_packet(
     out: &mut Vec<u8>,
     packet: &Packet,
 ) -> Result<(), EncodeFault>
-    requires { IsMessage packet.now }
-    ensures ok { OnOk result (out.new.items ≡ out.old.items ++ spelling packet.now) }
+    requires { IsAllowedPacket packet.now }
+    ensures ok { OnOk result (out.new.items ≡ out.old.items ++ packet_spelling packet.now) }
     ensures body { result ≢ Err EncodeFault.Body }
-    ensures too_long { result ≡ Err EncodeFault.TooLong → MAX_REMAINING < size_of packet.now }
-    ensures refused { MAX_REMAINING < size_of packet.now
+    ensures too_long { result ≡ Err EncodeFault.TooLong → MAX_REMAINING < packet_size packet.now }
+    ensures refused { MAX_REMAINING < packet_size packet.now
         → (result ≡ Err EncodeFault.TooLong) ⊎ (result ≡ Err EncodeFault.Memory) }
     ensures err { OnErr result (out.new.items ≡ out.old.items) }
 {

@@ -3,7 +3,7 @@
 ghost use Rattle.std.specs.Prelude.{◌≡◌, ◌+◌, ◌*◌, ◌<◌, ◌∷◌, ◌++◌, [], IfOk, OnOk, IfSome};
 ghost use Rattle.byteorder.specs.Endian.{big_bytes};
 ghost use Rattle.mq_packet.specs.Bodies as spec;
-ghost use Rattle.mq_packet.specs.Bodies.{IsLogin, IsWill, data_octets, delivery_octets, login_octets, will_octets};
+ghost use Rattle.mq_packet.specs.Bodies.{IsLogin, IsWill, data_octets, delivery_octets, login_octets, will_strings};
 ghost use Rattle.mq_packet.specs.Text.{IsData, IsText};
 
 use crate::marks::{bit, qos_number};
@@ -55,7 +55,7 @@ fn login_bits(login: &Option<Login>) -> u8
 /// Appends the topic and the message of the will.
 fn append_will(out: &mut Vec<u8>, will: &Option<Will>) -> Result<(), AllocError>
     requires { IfSome will.now IsWill }
-    ensures { OnOk result (out.new.items ≡ out.old.items ++ will_octets will.now) }
+    ensures { OnOk result (out.new.items ≡ out.old.items ++ will_strings will.now) }
 {
     let Some(will) = will else {
         return Ok(());
@@ -93,7 +93,7 @@ pub(super) fn connect(
     requires logins { IfSome login.now IsLogin }
     ensures { IfOk result (λ front. front.items ≡ spec.protocol ++
         (2 * spec.bit clean + spec.will_bits will.now + spec.login_bits login.now)
-        ∷ big_bytes 2 keep_alive ++ data_octets client.now ++ will_octets will.now
+        ∷ big_bytes 2 keep_alive ++ data_octets client.now ++ will_strings will.now
         ++ login_octets login.now) }
 {
     let bits = 2 * bit(clean) + will_bits(will) + login_bits(login);

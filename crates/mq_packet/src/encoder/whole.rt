@@ -3,7 +3,7 @@
 ghost use Rattle.std.specs.Prelude.{◌≡◌, ◌≢◌, ◌<◌, ◌+◌, ◌%◌, ◌^◌, length, ◌++◌, ◌↔◌, OnOk, OnErr, Err};
 ghost use Rattle.mq_packet.specs.declared.packet.TheConstants.{MAX_REMAINING};
 ghost use Rattle.mq_packet.specs.Bodies as spec;
-ghost use Rattle.mq_packet.specs.Grammar.{size_of, spelling};
+ghost use Rattle.mq_packet.specs.Grammar.{packet_size, packet_spelling};
 
 use crate::fault::EncodeFault;
 use crate::header::Header;
@@ -49,10 +49,11 @@ pub(super) fn append_spelling(
     front: &[u8],
     tail: &[u8],
 ) -> Result<(), EncodeFault>
-    requires { spec.body_of packet.now ≡ front.now ++ tail.now }
-    ensures ok { OnOk result (out.new.items ≡ out.old.items ++ spelling packet.now) }
+    requires { spec.packet_body packet.now ≡ front.now ++ tail.now }
+    ensures ok { OnOk result (out.new.items ≡ out.old.items ++ packet_spelling packet.now) }
     ensures body { result ≢ Err EncodeFault.Body }
-    ensures too_long { (result ≡ Err EncodeFault.TooLong) ↔ (MAX_REMAINING < size_of packet.now) }
+    ensures too_long { (result ≡ Err EncodeFault.TooLong) ↔
+        (MAX_REMAINING < packet_size packet.now) }
     ensures err { OnErr result (out.new.items ≡ out.old.items) }
 {
     let first = header_of(packet).octet();

@@ -2,15 +2,15 @@
 
 use crate::page::Page;
 use crate::stop::{Stop, missing};
-use crate::wires::serving::{Outcome, Shared, serve_all, unserved};
-use gw_shift::{Pass, Shift};
+use crate::wires::serving::{Crew, Outcome, Shared, Sides, serve_all, unserved};
+use gw_shift::Pass;
 use gw_wire::{FieldClock, OpenGate, Post, Socket, Wire, address};
-use jr_disk::Disk;
+use jr_journal::MemoryDisk;
 use mio::net::UdpSocket;
-use rep_model::Replica;
+use rep_plain::Plain;
 use sn_local::Addr;
 use std::alloc::Global;
-use std::net::{Net, SocketAddr};
+use std::net::SocketAddr;
 use std::sync::Wait;
 use std::sync::atomic::{AtomicBool, Ordering};
 use std::thread::Threads;
@@ -39,24 +39,26 @@ pub(crate) struct Questions {
     pub(crate) second: Vec<u8>,
 }
 
-/// The socket of somebody who asks, and the address of the gateway.
+/// The socket of somebody who asks, and what is asked.
 #[derive(Drop)]
-struct Asker {
+struct Asker<'a> {
     socket: UdpSocket,
+    /// The address of the gateway.
     at: SocketAddr,
-    /// Whether nobody serves any more.
-    is_over: AtomicBool,
+    questions: &'a Questions,
+    /// Room for what is answered.
+    room: Vec<u8>,
 }
 
 /// Asks, prints the first answer, and tells how serving ended.
-pub(crate) fn over_sockets<T: Threads + Wait + Sync + Clock + Net>(
+pub(crate) fn over_sockets<T: Threads + Wait + Sync + Clock>(
     rt: &T,
     page: &mut Page,
     shift: &Shared,
     passes: Vec<Pass>,
     questions: &Questions,
 ) -> Outcome {
-    match Socket::bind(rt, page.alloc(), HOME) {
+    match Socket::bind(&page.host(), page.alloc(), HOME) {
         Ok(mut socket) => {
             let outcome = over_socket(rt, page, shift, passes, &mut socket, questions);
             drop(socket);
@@ -74,7 +76,7 @@ fn unasked(page: &mut Page, passes: Vec<Pass>, error: io::Error) -> Outcome {
 }
 
 /// The same once the gateway has its socket.
-fn over_socket<T: Threads + Wait + Sync + Clock + Net>(
+fn over_socket<T: Threads + Wait + Sync + Clock>(
     rt: &T,
     page: &mut Page,
     shift: &Shared,
@@ -82,16 +84,15 @@ fn over_socket<T: Threads + Wait + Sync + Clock + Net>(
     socket: &mut Socket,
     questions: &Questions,
 ) -> Outcome {
-    match UdpSocket::bind(rt, address(HOME)) {
+    match UdpSocket::bind(&page.host(), address(HOME)) {
         Ok(asking) => {
             let asker = Asker {
                 socket: asking,
                 at: socket.local,
-                is_over: AtomicBool::new(false),
+                questions,
+                room: room(page),
             };
-            let outcome = over_both(rt, page, shift, passes, socket, &asker, questions);
-            drop(asker);
-            outcome
+            over_both(rt, page, Crew { shift, passes }, socket, asker)
         }
         Err(error) => unasked(page, passes, error),
     }
@@ -101,23 +102,11 @@ fn over_socket<T: Threads + Wait + Sync + Clock + Net>(
 fn over_both<T: Threads + Wait + Sync + Clock>(
     rt: &T,
     page: &mut Page,
-    shift: &Shared,
-    passes: Vec<Pass>,
+    crew: Crew<'_>,
     socket: &mut Socket,
-    asker: &Asker,
-    questions: &Questions,
+    asker: Asker<'_>,
 ) -> Outcome {
-    let room = room(page);
-    let (answer, outcome) = asked(
-        rt,
-        page.alloc(),
-        shift,
-        passes,
-        socket,
-        asker,
-        questions,
-        room,
-    );
+    let (answer, outcome) = asked(rt, page.alloc(), crew, socket, asker);
     print_answer(page, &answer);
     drop(answer);
     if outcome.cause.is_none() && came(&outcome) < 2 {
@@ -157,55 +146,62 @@ fn print_answer(page: &mut Page, answer: &Option<Vec<u8>>) {
 fn asked<T: Threads + Wait + Sync + Clock>(
     rt: &T,
     alloc: Global,
-    shift: &Shared,
-    passes: Vec<Pass>,
+    crew: Crew<'_>,
     socket: &mut Socket,
-    asker: &Asker,
-    questions: &Questions,
-    room: Vec<u8>,
+    asker: Asker<'_>,
 ) -> (Option<Vec<u8>>, Outcome) {
     let clock = FieldClock::new();
     let _ = clock.look(rt);
     let (mut ears, mouth) = socket.sides(&clock);
-    side_by_side(
-        rt, alloc, shift, passes, &mut ears, &mouth, asker, questions, room,
-    )
+    side_by_side(rt, alloc, crew, &mut ears, &mouth, asker)
 }
 
 /// One thread asks, others serve.
-fn side_by_side<T, R, D, W, P>(
+fn side_by_side<T, W, P>(
     rt: &T,
     alloc: Global,
-    shift: &Shift<R, D>,
-    passes: Vec<Pass>,
+    crew: Crew<'_>,
     wire: &mut W,
     post: &P,
-    asker: &Asker,
-    questions: &Questions,
-    room: Vec<u8>,
+    asker: Asker<'_>,
 ) -> (Option<Vec<u8>>, Outcome)
 where
     T: Threads + Wait + Sync + Clock,
-    R: Replica + Send,
-    R::Staged: Send,
-    D: Disk + Drop + Send,
     W: Wire,
     P: Post + Sync,
 {
+    let Crew { shift, passes } = crew;
+    let Asker {
+        socket: asking,
+        at,
+        questions,
+        room,
+    } = asker;
     let first = questions.first.as_slice();
     let second = questions.second.as_slice();
-    let socket = &asker.socket;
-    let at = asker.at;
-    let is_over = &asker.is_over;
-    thread::join(
+    let socket = &asking;
+    // Whether nobody serves any more.
+    let over = AtomicBool::new(false);
+    let is_over = &over;
+    let both = thread::join(
         rt,
         || -> Option<Vec<u8>> { ask_both(socket, at, first, second, room, is_over) },
         || -> Outcome {
-            let outcome = serve_all(rt, alloc, shift, passes, wire, post, &OpenGate, TURNS);
+            let gate = &OpenGate;
+            let turns = TURNS;
+            let sides = Sides {
+                wire,
+                post,
+                gate,
+                turns,
+            };
+            let outcome = serve_all(rt, alloc, Crew { shift, passes }, sides);
             is_over.store(true, Ordering::Release);
             outcome
         },
-    )
+    );
+    drop(asking);
+    both
 }
 
 /// Sends both, the second after the answer to the first, which is handed back.

@@ -8,13 +8,12 @@ use crate::wires::pipe::{Pipe, Place};
 use crate::wires::printing::{print_answer, print_over};
 use crate::wires::serving::{Gateway, close, node_of, shift_of};
 use crate::words::Words;
-use gw_link::{End, Link, Origin, Phase, Relay, Stage, call, talk};
+use gw_link::{End, Link, Origin, Phase, Relay, Stage, Work, call, talk};
 use gw_node::{Answer, Node, Step};
 use gw_run::{Pool, Seat, sit};
 use gw_shift::{Pass, Shift};
 use jr_journal::MemoryDisk;
 use octets::{Octets, read_u32};
-use rep_model::Replica;
 use rep_plain::Plain;
 use sn_local::Addr;
 use std::alloc::Global;
@@ -53,11 +52,13 @@ enum Act {
 
 /// A gateway in its shift.
 #[derive(Drop)]
-struct OpenShift<R: Replica> {
+struct OpenShift {
+    /// The memory.
+    alloc: Global,
     /// The number of the gateway.
     number: u8,
     /// The shift. There is none if memory ran out.
-    shift: Option<Shift<R, MemoryDisk>>,
+    shift: Option<Shift<Plain, MemoryDisk>>,
     /// The pass of datagrams.
     pass: Option<Pass>,
     /// That of the links.
@@ -76,8 +77,8 @@ struct Tie<'a, S: Drop> {
 
 /// One of the gateways, with its ends of links.
 #[derive(Drop)]
-struct Side<'a, R: Replica, S: Drop> {
-    open: OpenShift<R>,
+struct Side<'a, S: Drop> {
+    open: OpenShift,
     /// What its links share.
     pool: Pool<S>,
     /// Its ends of links, that with the least number first.
@@ -180,11 +181,11 @@ fn are_three(deeds: &[Deed]) -> bool {
 }
 
 /// Two gateways, or three, have their links, and no shift yet.
-fn gather<'a, T: Wait, R: Replica>(
+fn gather<'a, T: Wait>(
     rt: &'a T,
     page: &mut Page,
     places: &'a Places,
-    sides: &mut Vec<Side<'a, R, Pipe<'a, T>>>,
+    sides: &mut Vec<Side<'a, Pipe<'a, T>>>,
     are_three: bool,
 ) {
     add_side(page, sides, 1);
@@ -197,7 +198,7 @@ fn gather<'a, T: Wait, R: Replica>(
 }
 
 /// A gateway of this number, without a shift and without a link, comes after the others.
-fn add_side<'a, R: Replica, S: Drop>(page: &mut Page, sides: &mut Vec<Side<'a, R, S>>, number: u8) {
+fn add_side<'a, S: Drop>(page: &mut Page, sides: &mut Vec<Side<'a, S>>, number: u8) {
     let alloc = page.alloc();
     match Pool::new(alloc, 1, &[]) {
         Some(pool) => put_side(page, sides, side_with(alloc, number, pool)),
@@ -206,9 +207,10 @@ fn add_side<'a, R: Replica, S: Drop>(page: &mut Page, sides: &mut Vec<Side<'a, R
 }
 
 /// A gateway of this number, whose links share this.
-fn side_with<'a, R: Replica, S: Drop>(alloc: Global, number: u8, pool: Pool<S>) -> Side<'a, R, S> {
+fn side_with<'a, S: Drop>(alloc: Global, number: u8, pool: Pool<S>) -> Side<'a, S> {
     Side {
         open: OpenShift {
+            alloc,
             number,
             shift: None,
             pass: None,
@@ -220,20 +222,16 @@ fn side_with<'a, R: Replica, S: Drop>(alloc: Global, number: u8, pool: Pool<S>) 
 }
 
 /// Puts a gateway after the others.
-fn put_side<'a, R: Replica, S: Drop>(
-    page: &mut Page,
-    sides: &mut Vec<Side<'a, R, S>>,
-    side: Side<'a, R, S>,
-) {
+fn put_side<'a, S: Drop>(page: &mut Page, sides: &mut Vec<Side<'a, S>>, side: Side<'a, S>) {
     let is_short = sides.push(side).is_err();
     page.stop_if_short(is_short);
 }
 
 /// A link between two gateways, which the first one dialled. Each has its number and its end.
-fn join<'a, T: Wait, R: Replica>(
+fn join<'a, T: Wait>(
     rt: &'a T,
     page: &mut Page,
-    sides: &mut Vec<Side<'a, R, Pipe<'a, T>>>,
+    sides: &mut Vec<Side<'a, Pipe<'a, T>>>,
     dialler: (u8, &'a Place),
     dialled: (u8, &'a Place),
 ) {
@@ -244,9 +242,9 @@ fn join<'a, T: Wait, R: Replica>(
 }
 
 /// A gateway has an end of a link to another one, with this stream, after those that it has.
-fn add_tie<'a, R: Replica, S: Drop>(
+fn add_tie<'a, S: Drop>(
     page: &mut Page,
-    sides: &mut Vec<Side<'a, R, S>>,
+    sides: &mut Vec<Side<'a, S>>,
     here: (u8, &'a Place),
     other: u8,
     stream: S,
@@ -277,10 +275,10 @@ fn tie_of<'a, S: Drop>(
 }
 
 /// The gateway of a number.
-fn side_of<'b, 'a, R: Replica, S: Drop>(
-    sides: &'b mut Vec<Side<'a, R, S>>,
+fn side_of<'b, 'a, S: Drop>(
+    sides: &'b mut Vec<Side<'a, S>>,
     number: u64,
-) -> Option<&'b mut Side<'a, R, S>> {
+) -> Option<&'b mut Side<'a, S>> {
     if number == 0 {
         return None;
     }
@@ -294,14 +292,14 @@ fn put_last<'a, S: Drop>(page: &mut Page, ties: &mut VecDeque<Tie<'a, S>>, tie: 
 }
 
 /// Each gateway is opened on an empty disk, and its first shift begins.
-fn begin_all<'a, S: Drop>(page: &mut Page, sides: &mut Vec<Side<'a, Plain, S>>) {
+fn begin_all<'a, S: Drop>(page: &mut Page, sides: &mut Vec<Side<'a, S>>) {
     for side in sides.iter_mut() {
         begin(page, &mut side.open);
     }
 }
 
 /// A gateway is opened on an empty disk, and its first shift begins.
-fn begin(page: &mut Page, opened: &mut OpenShift<Plain>) {
+fn begin(page: &mut Page, opened: &mut OpenShift) {
     match gateway_of(page, opened.number) {
         Some(node) => open_shift(page, opened, node),
         // Nothing else refuses on an empty disk in memory.
@@ -319,7 +317,7 @@ fn gateway_of(page: &mut Page, number: u8) -> Option<Gateway> {
 }
 
 /// A shift of a gateway begins, with a pass for datagrams and one for the links.
-fn open_shift<R: Replica>(page: &mut Page, opened: &mut OpenShift<R>, node: Node<R, MemoryDisk>) {
+fn open_shift(page: &mut Page, opened: &mut OpenShift, node: Node<Plain, MemoryDisk>) {
     if let Some((shift, passes)) = shift_of(page, node, 2, 4_096) {
         sit_in(opened, passes);
         drop(mem::replace(&mut opened.shift, Some(shift)));
@@ -327,21 +325,21 @@ fn open_shift<R: Replica>(page: &mut Page, opened: &mut OpenShift<R>, node: Node
 }
 
 /// The passes of a shift are these two.
-fn sit_in<R: Replica>(opened: &mut OpenShift<R>, mut passes: Vec<Pass>) {
+fn sit_in(opened: &mut OpenShift, mut passes: Vec<Pass>) {
     drop(mem::replace(&mut opened.pass, passes.pop()));
     drop(mem::replace(&mut opened.seat, passes.pop()));
     drop(passes);
 }
 
 /// Each shift ends. The program ends if memory was refused in a disk.
-fn end_all<'a, R: Replica, S: Drop>(page: &mut Page, sides: &mut Vec<Side<'a, R, S>>) {
+fn end_all<'a, S: Drop>(page: &mut Page, sides: &mut Vec<Side<'a, S>>) {
     for side in sides.iter_mut() {
         end_shift(page, &mut side.open);
     }
 }
 
 /// The shift of a gateway ends. The program ends if memory was refused in its disk.
-fn end_shift<R: Replica>(page: &mut Page, opened: &mut OpenShift<R>) {
+fn end_shift(page: &mut Page, opened: &mut OpenShift) {
     if let Some(shift) = opened.shift.take() {
         let over = over(shift);
         page.stop_if_short(over.node.starved());
@@ -350,10 +348,10 @@ fn end_shift<R: Replica>(page: &mut Page, opened: &mut OpenShift<R>) {
 }
 
 /// Things happen at the gateways, up to the first that ends the play.
-fn play_deeds<'a, T: Wait + Clock, R: Replica, S: Read + Write + Drop>(
+fn play_deeds<'a, T: Wait + Clock, S: Read + Write + Drop>(
     rt: &T,
     page: &mut Page,
-    sides: &mut Vec<Side<'a, R, S>>,
+    sides: &mut Vec<Side<'a, S>>,
     deeds: &[Deed],
 ) {
     for deed in deeds {
@@ -367,10 +365,10 @@ fn play_deeds<'a, T: Wait + Clock, R: Replica, S: Read + Write + Drop>(
 }
 
 /// Something happens at a gateway.
-fn happen<'a, T: Wait + Clock, R: Replica, S: Read + Write + Drop>(
+fn happen<'a, T: Wait + Clock, S: Read + Write + Drop>(
     rt: &T,
     page: &mut Page,
-    side: &mut Side<'a, R, S>,
+    side: &mut Side<'a, S>,
     act: &Act,
 ) {
     let opened = &mut side.open;
@@ -385,10 +383,10 @@ fn happen<'a, T: Wait + Clock, R: Replica, S: Read + Write + Drop>(
 }
 
 /// Something happens at a gateway with these ends of links, by way of the first one.
-fn happen_first<'a, T: Wait, R: Replica, S: Drop>(
+fn happen_first<'a, T: Wait, S: Drop>(
     rt: &T,
     page: &mut Page,
-    opened: &mut OpenShift<R>,
+    opened: &mut OpenShift,
     ties: &VecDeque<Tie<'a, S>>,
     act: &Act,
 ) {
@@ -399,13 +397,7 @@ fn happen_first<'a, T: Wait, R: Replica, S: Drop>(
 }
 
 /// Something happens at a gateway whose first link has this place.
-fn happen_at<T: Wait, R: Replica>(
-    rt: &T,
-    page: &mut Page,
-    opened: &mut OpenShift<R>,
-    place: &Place,
-    act: &Act,
-) {
+fn happen_at<T: Wait>(rt: &T, page: &mut Page, opened: &mut OpenShift, place: &Place, act: &Act) {
     match act {
         Act::Ask(host, octets) => ask(rt, page, opened, place.stage(), *host, octets.as_slice()),
         act => happen_to(rt, page, place, act),
@@ -426,10 +418,10 @@ fn happen_to<T: Wait>(rt: &T, page: &mut Page, place: &Place, act: &Act) {
 }
 
 /// A datagram comes, from port 1 of a host, at moment 5.
-fn ask<T: Wait, R: Replica>(
+fn ask<T: Wait>(
     rt: &T,
     page: &mut Page,
-    opened: &mut OpenShift<R>,
+    opened: &mut OpenShift,
     stage: &Stage,
     host: u32,
     octets: &[u8],
@@ -453,17 +445,23 @@ fn step_of(alloc: Global, host: u32, octets: &[u8]) -> Option<Arc<Step>> {
 }
 
 /// A call is made, and what was answered is printed.
-fn ask_step<T: Wait, R: Replica>(
+fn ask_step<T: Wait>(
     rt: &T,
     page: &mut Page,
-    opened: &mut OpenShift<R>,
+    opened: &mut OpenShift,
     stage: &Stage,
     step: Arc<Step>,
 ) {
     let pass = &mut opened.pass;
     match &opened.shift {
         Some(shift) => {
-            let answered = call_by(rt, page.alloc(), shift, pass, step, stage);
+            let work = Work {
+                rt,
+                alloc: page.alloc(),
+                shift,
+                stage,
+            };
+            let answered = call_by(&work, pass, step);
             print_asked(page, opened.number, &answered);
             drop(answered);
         }
@@ -475,17 +473,14 @@ fn ask_step<T: Wait, R: Replica>(
 }
 
 /// A pass makes a call, and stays where it is.
-fn call_by<T: Wait, R: Replica>(
-    rt: &T,
-    alloc: Global,
-    shift: &Shift<R, MemoryDisk>,
+fn call_by<T: Wait>(
+    work: &Work<'_, T, Plain, MemoryDisk>,
     kept: &mut Option<Pass>,
     step: Arc<Step>,
-    stage: &Stage,
 ) -> Result<Answer, End> {
     match kept.take() {
         Some(pass) => {
-            let (pass, answered) = call(rt, alloc, shift, pass, step, stage);
+            let (pass, answered) = call(work, pass, step);
             put_pass(kept, pass);
             answered
         }
@@ -514,10 +509,10 @@ fn print_asked(page: &mut Page, number: u8, answered: &Result<Answer, End>) {
 }
 
 /// The links of a gateway talk in turn, from a phase of the shift on, each to the end of the shift.
-fn talk_all<'a, T: Wait + Clock, R: Replica, S: Read + Write + Drop>(
+fn talk_all<'a, T: Wait + Clock, S: Read + Write + Drop>(
     rt: &T,
     page: &mut Page,
-    opened: &mut OpenShift<R>,
+    opened: &mut OpenShift,
     relay: &Relay,
     ties: &mut VecDeque<Tie<'a, S>>,
     phase: Phase,
@@ -530,15 +525,15 @@ fn talk_all<'a, T: Wait + Clock, R: Replica, S: Read + Write + Drop>(
 }
 
 /// A link of a gateway talks, and what it said is printed.
-fn talk_once<'a, T: Wait + Clock, R: Replica, S: Read + Write + Drop>(
+fn talk_once<'a, T: Wait + Clock, S: Read + Write + Drop>(
     rt: &T,
     page: &mut Page,
-    opened: &mut OpenShift<R>,
+    opened: &mut OpenShift,
     relay: &Relay,
     tie: &mut Tie<'a, S>,
     phase: Phase,
 ) {
-    match talk_from(rt, page.alloc(), opened, relay, tie, phase) {
+    match talk_from(rt, opened, relay, tie, phase) {
         Some(end) => {
             leave_if_lost(rt, relay, &mut tie.link, end);
             print_talk(rt, page, opened.number, tie.other, tie.place, end);
@@ -549,10 +544,9 @@ fn talk_once<'a, T: Wait + Clock, R: Replica, S: Read + Write + Drop>(
 
 /// A link of a gateway talks, from a phase of the shift on. Says why it stopped; nothing if it is
 /// lost.
-fn talk_from<'a, T: Wait + Clock, R: Replica, S: Read + Write + Drop>(
+fn talk_from<'a, T: Wait + Clock, S: Read + Write + Drop>(
     rt: &T,
-    alloc: Global,
-    opened: &mut OpenShift<R>,
+    opened: &mut OpenShift,
     relay: &Relay,
     tie: &mut Tie<'a, S>,
     phase: Phase,
@@ -561,24 +555,23 @@ fn talk_from<'a, T: Wait + Clock, R: Replica, S: Read + Write + Drop>(
     match &mut tie.link {
         Some(link) => {
             place.stage().go_to(rt, phase);
-            Some(talk_over(rt, alloc, opened, relay, link, place.stage()))
+            Some(talk_over(rt, opened, relay, link, place.stage()))
         }
         None => None,
     }
 }
 
 /// A link of a gateway talks to the end of the shift. Says why it stopped.
-fn talk_over<T: Wait + Clock, R: Replica, S: Read + Write + Drop>(
+fn talk_over<T: Wait + Clock, S: Read + Write + Drop>(
     rt: &T,
-    alloc: Global,
-    opened: &mut OpenShift<R>,
+    opened: &mut OpenShift,
     relay: &Relay,
     link: &mut Link<S>,
     stage: &Stage,
 ) -> End {
-    match Vec::from_elem(alloc, 0u8, 65_536) {
+    match Vec::from_elem(opened.alloc, 0u8, 65_536) {
         Ok(mut piece) => {
-            let end = talk_with(rt, alloc, opened, relay, link, stage, piece.as_mut_slice());
+            let end = talk_with(rt, opened, relay, link, stage, piece.as_mut_slice());
             drop(piece);
             end
         }
@@ -587,39 +580,44 @@ fn talk_over<T: Wait + Clock, R: Replica, S: Read + Write + Drop>(
 }
 
 /// The same, with room for what comes.
-fn talk_with<T: Wait + Clock, R: Replica, S: Read + Write + Drop>(
+fn talk_with<T: Wait + Clock, S: Read + Write + Drop>(
     rt: &T,
-    alloc: Global,
-    opened: &mut OpenShift<R>,
+    opened: &mut OpenShift,
     relay: &Relay,
     link: &mut Link<S>,
     stage: &Stage,
     piece: &mut [u8],
 ) -> End {
+    let alloc = opened.alloc;
     let number = opened.number;
     let seat = &mut opened.seat;
     match &opened.shift {
-        Some(shift) => talk_by(rt, alloc, shift, seat, link, number, piece, stage, relay),
+        Some(shift) => {
+            let work = Work {
+                rt,
+                alloc,
+                shift,
+                stage,
+            };
+            talk_by(&work, seat, link, number, piece, relay)
+        }
         // A gateway without a shift had no memory for it.
         None => End::Memory,
     }
 }
 
 /// The same by the pass of this seat, which sits down again.
-fn talk_by<T: Wait + Clock, R: Replica, S: Read + Write + Drop>(
-    rt: &T,
-    alloc: Global,
-    shift: &Shift<R, MemoryDisk>,
+fn talk_by<T: Wait + Clock, S: Read + Write + Drop>(
+    work: &Work<'_, T, Plain, MemoryDisk>,
     seat: &mut Option<Pass>,
     link: &mut Link<S>,
     number: u8,
     piece: &mut [u8],
-    stage: &Stage,
     relay: &Relay,
 ) -> End {
     match seat.take() {
         Some(pass) => {
-            let (pass, end) = talk(rt, alloc, shift, pass, link, number, piece, stage, relay);
+            let (pass, end) = talk(work, pass, link, number, piece, relay);
             put_pass(seat, pass);
             end
         }
@@ -709,10 +707,10 @@ fn print_message(page: &mut Page, number: u8, to: &str, kind: u8, body: &[u8]) {
 }
 
 /// The first link of a gateway talks at a seat, and then it is closed. From then on it is the last.
-fn sit_down<'a, T: Wait + Clock, R: Replica, S: Read + Write + Drop>(
+fn sit_down<'a, T: Wait + Clock, S: Read + Write + Drop>(
     rt: &T,
     page: &mut Page,
-    opened: &mut OpenShift<R>,
+    opened: &mut OpenShift,
     pool: &Pool<S>,
     ties: &mut VecDeque<Tie<'a, S>>,
 ) {
@@ -726,10 +724,10 @@ fn sit_down<'a, T: Wait + Clock, R: Replica, S: Read + Write + Drop>(
 }
 
 /// A link of a gateway talks at a seat, and then it is closed.
-fn sit_with<'a, T: Wait + Clock, R: Replica, S: Read + Write + Drop>(
+fn sit_with<'a, T: Wait + Clock, S: Read + Write + Drop>(
     rt: &T,
     page: &mut Page,
-    opened: &mut OpenShift<R>,
+    opened: &mut OpenShift,
     pool: &Pool<S>,
     tie: &mut Tie<'a, S>,
 ) {
@@ -738,7 +736,7 @@ fn sit_with<'a, T: Wait + Clock, R: Replica, S: Read + Write + Drop>(
             if is_closed(rt, pool, origin) {
                 page.stop(Stop::Memory);
             } else {
-                sit_at(rt, page, opened, pool, tie.other, tie.place, origin);
+                sit_at(rt, page, opened, pool, tie, origin);
             }
         }
         None => page.stop(Stop::Line),
@@ -761,30 +759,29 @@ fn seek_seat<T: Wait, S: Drop>(
     }
 }
 
-/// A link that waits talks at a seat, and then it is closed. It has this place, and the number of
-/// its other end.
-fn sit_at<T: Wait + Clock, R: Replica, S: Read + Write + Drop>(
+/// A link that waits talks at a seat, and then it is closed.
+fn sit_at<'a, T: Wait + Clock, S: Read + Write + Drop>(
     rt: &T,
     page: &mut Page,
-    opened: &mut OpenShift<R>,
+    opened: &mut OpenShift,
     pool: &Pool<S>,
-    other: u8,
-    place: &Place,
+    tie: &Tie<'a, S>,
     origin: Origin,
 ) {
     let number = opened.number;
+    let place = tie.place;
     let end = serve_seat(rt, page.alloc(), opened, pool, place.stage());
-    print_talk(rt, page, number, other, place, end);
+    print_talk(rt, page, number, tie.other, place, end);
     print_room(rt, page, number, pool, origin);
     pool.close_all(rt);
     print_room(rt, page, number, pool, origin);
 }
 
 /// Serves the first seat of a gateway's pool. Says why its link stopped.
-fn serve_seat<T: Wait + Clock, R: Replica, S: Read + Write + Drop>(
+fn serve_seat<T: Wait + Clock, S: Read + Write + Drop>(
     rt: &T,
     alloc: Global,
-    opened: &mut OpenShift<R>,
+    opened: &mut OpenShift,
     pool: &Pool<S>,
     stage: &Stage,
 ) -> End {
@@ -793,7 +790,13 @@ fn serve_seat<T: Wait + Clock, R: Replica, S: Read + Write + Drop>(
     match &opened.shift {
         Some(shift) => {
             stage.go_to(rt, Phase::Serving);
-            sit_by(rt, alloc, shift, seat, pool, number, stage)
+            let work = Work {
+                rt,
+                alloc,
+                shift,
+                stage,
+            };
+            sit_by(&work, seat, pool, number)
         }
         // A gateway without a shift had no memory for it.
         None => End::Memory,
@@ -801,19 +804,16 @@ fn serve_seat<T: Wait + Clock, R: Replica, S: Read + Write + Drop>(
 }
 
 /// Serves a seat by its pass, which sits down again. Says why its link stopped.
-fn sit_by<T: Wait + Clock, R: Replica, S: Read + Write + Drop>(
-    rt: &T,
-    alloc: Global,
-    shift: &Shift<R, MemoryDisk>,
+fn sit_by<T: Wait + Clock, S: Read + Write + Drop>(
+    work: &Work<'_, T, Plain, MemoryDisk>,
     seat: &mut Option<Pass>,
     pool: &Pool<S>,
     number: u8,
-    stage: &Stage,
 ) -> End {
     match seat.take() {
         Some(pass) => {
             let given = Seat { pass, end: None };
-            let sat = sit(rt, alloc, shift, given, pool, number, stage);
+            let sat = sit(work, given, pool, number);
             put_pass(seat, sat.pass);
             sat.end.unwrap_or(End::Full)
         }
@@ -847,10 +847,10 @@ fn print_room<T: Wait, S: Drop>(
 }
 
 /// A shift of a gateway is closed, and the next one begins, also for its links.
-fn turn<'a, T: Wait, R: Replica, S: Drop>(
+fn turn<'a, T: Wait, S: Drop>(
     rt: &T,
     page: &mut Page,
-    opened: &mut OpenShift<R>,
+    opened: &mut OpenShift,
     pool: &Pool<S>,
     ties: &mut VecDeque<Tie<'a, S>>,
 ) {
@@ -860,7 +860,7 @@ fn turn<'a, T: Wait, R: Replica, S: Drop>(
 }
 
 /// Closes the shift of a gateway, prints how it went, and opens the next one.
-fn turn_shift<R: Replica>(page: &mut Page, opened: &mut OpenShift<R>) {
+fn turn_shift(page: &mut Page, opened: &mut OpenShift) {
     match opened.shift.take() {
         Some(shift) => {
             let node = closed(page, opened, shift);
@@ -871,11 +871,11 @@ fn turn_shift<R: Replica>(page: &mut Page, opened: &mut OpenShift<R>) {
 }
 
 /// Closes a shift of a gateway with its passes, and prints how it went.
-fn closed<R: Replica>(
+fn closed(
     page: &mut Page,
-    opened: &mut OpenShift<R>,
-    shift: Shift<R, MemoryDisk>,
-) -> Node<R, MemoryDisk> {
+    opened: &mut OpenShift,
+    shift: Shift<Plain, MemoryDisk>,
+) -> Node<Plain, MemoryDisk> {
     let passes = passes_of(page, opened);
     let over = close(shift, passes);
     page.shown("", &opened.number);
@@ -885,7 +885,7 @@ fn closed<R: Replica>(
 }
 
 /// The passes of a shift, which is to be closed.
-fn passes_of<R: Replica>(page: &mut Page, opened: &mut OpenShift<R>) -> Vec<Pass> {
+fn passes_of(page: &mut Page, opened: &mut OpenShift) -> Vec<Pass> {
     let mut passes = Vec::new(page.alloc());
     add_pass(page, &mut passes, opened.pass.take());
     add_pass(page, &mut passes, opened.seat.take());

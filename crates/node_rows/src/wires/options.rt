@@ -207,7 +207,7 @@ fn print_octets(page: &mut Page, octets: &[u8], short: &[u8]) {
 
 /// `files OCTETS`: opens a gateway on the two files that the settings name, gives it a datagram
 /// from port 1 of host 7, and closes it.
-pub(crate) fn files<T: Files<File = File>>(rt: &T, page: &mut Page, toml: &str, words: &mut Words) {
+pub(crate) fn files(rt: &HostRuntime, page: &mut Page, toml: &str, words: &mut Words) {
     let octets = words.digits();
     if words.end(page) {
         if let Some(read) = read(page, toml) {
@@ -219,7 +219,7 @@ pub(crate) fn files<T: Files<File = File>>(rt: &T, page: &mut Page, toml: &str, 
 }
 
 /// A gateway on the two files of these settings is opened, and asked once.
-fn files_of<T: Files<File = File>>(rt: &T, page: &mut Page, read: &Settings, octets: &[u8]) {
+fn files_of(rt: &HostRuntime, page: &mut Page, read: &Settings, octets: &[u8]) {
     match FileDisk::at(rt, page.alloc(), read.journal.as_str()) {
         Ok(disk) => ask_on(page, read, disk, octets),
         Err(fault) => print_fault(page, fault),
@@ -259,7 +259,7 @@ fn print_answered(page: &mut Page, answer: &Answer) {
 }
 
 /// `lose NAME`: the file of this name is not there any more.
-pub(crate) fn lose<T: Files<File = File>>(rt: &T, page: &mut Page, words: &mut Words) {
+pub(crate) fn lose(rt: &HostRuntime, page: &mut Page, words: &mut Words) {
     let name = words.word();
     if words.end(page) {
         if let Err(error) = &remove_file(rt, name) {

@@ -4,13 +4,11 @@ use crate::calls::clients;
 use crate::page::Page;
 use crate::stop::Stop;
 use crate::wires::outside::Note;
-use crate::wires::serving::{Outcome, Over};
+use crate::wires::serving::{Gateway, Outcome, Over};
 use crate::wires::wire::Coming;
-use gw_node::{Answer, Node, NodeFault, Step};
+use gw_node::{Answer, NodeFault, Step};
 use gw_serve::{Cause, Taken};
 use gw_shift::{CloseFault, Entry};
-use jr_journal::MemoryDisk;
-use rep_model::Replica;
 use rep_ops::ClientId;
 use sn_local::{Addr, Send as Sending};
 
@@ -182,7 +180,7 @@ fn print_note(page: &mut Page, number: u64, host: u32, note: &Note) {
 
 /// Whether the shift was closed, with how many calls, and which clients the gateway knows. The
 /// program ends if memory was refused in the disk, which then did not fail as arranged.
-pub(crate) fn print_over<R: Replica>(page: &mut Page, over: &Over<R>) {
+pub(crate) fn print_over(page: &mut Page, over: &Over) {
     page.stop_if_short(over.node.starved());
     print_close(page, &over.fault);
     page.length(" calls ", over.history.len());
@@ -203,7 +201,7 @@ fn print_close(page: &mut Page, fault: &Option<CloseFault>) {
 }
 
 /// The clients that a gateway knows.
-fn print_clients<R: Replica>(page: &mut Page, node: &Node<R, MemoryDisk>) {
+fn print_clients(page: &mut Page, node: &Gateway) {
     match clients(page.alloc(), node) {
         Ok(clients) => {
             print_ids(page, clients.as_slice());

@@ -10,7 +10,7 @@ use crate::wires::printing::{print_calls, print_count, print_notes, print_outcom
 use crate::wires::reports::{Sketch, add_client, be_ill};
 use crate::wires::requests::{ask, ask_octets, entries};
 use crate::wires::serving::{
-    Gateway, Outcome, Shared, close, node_of, passes_back, serve_all, shift_of,
+    Crew, Gateway, Outcome, Shared, Sides, close, node_of, passes_back, serve_all, shift_of,
 };
 use crate::wires::wire::{Coming, Told};
 use crate::words::Words;
@@ -18,9 +18,7 @@ use gw_shift::Pass;
 use gw_wire::{Gate, Post};
 use jr_journal::MemoryDisk;
 use std::alloc::Global;
-use std::fs::{File, Files};
 use std::mem;
-use std::net::Net;
 use std::sync::Wait;
 use std::thread::Threads;
 use std::time::Clock;
@@ -82,7 +80,7 @@ impl Plan {
 /// lines, and leaves all others to the next.
 pub(crate) fn play<T>(rt: &T, page: &mut Page, row: &mut Row, first: &str, words: &mut Words)
 where
-    T: Threads + Wait + Sync + Clock + Net + Files<File = File>,
+    T: Threads + Wait + Sync + Clock,
 {
     match first {
         "begin" => play_begin(page, row, words),
@@ -90,23 +88,17 @@ where
         "serve" => play_serve(rt, page, row, words),
         "meet" => play_meet(rt, page, row, words),
         "loopback" => play_loopback(rt, page, row, words),
-        first => play_settings(rt, page, row, first, words),
+        first => play_settings(page, row, first, words),
     }
 }
 
 /// Lines about the settings, and about the files that they name.
-fn play_settings<T: Files<File = File>>(
-    rt: &T,
-    page: &mut Page,
-    row: &mut Row,
-    first: &str,
-    words: &mut Words,
-) {
+fn play_settings(page: &mut Page, row: &mut Row, first: &str, words: &mut Words) {
     match first {
         "gateway" => name(page, &mut row.toml, words),
         "settings" => show(page, row.toml.as_str(), words),
-        "files" => files(rt, page, row.toml.as_str(), words),
-        "lose" => lose(rt, page, words),
+        "files" => files(&page.host(), page, row.toml.as_str(), words),
+        "lose" => lose(&page.host(), page, words),
         first => play_page(page, row, first, words),
     }
 }
@@ -147,7 +139,8 @@ fn play_plan(page: &mut Page, plan: &mut Plan, first: &str, words: &mut Words) {
 fn play_happening(page: &mut Page, plan: &mut Plan, first: &str, words: &mut Words) {
     match first {
         "datagram" => add_datagram(page, &mut plan.coming, words),
-        "failure" => add_failure(page, &mut plan.coming, words),
+        "failure" => add_end(page, &mut plan.coming, words, Coming::Failure),
+        "over" => add_end(page, &mut plan.coming, words, Coming::Over),
         first => add_deed(page, &mut plan.deeds, first, words),
     }
 }
@@ -207,11 +200,13 @@ fn add_datagram(page: &mut Page, coming: &mut Vec<Coming>, words: &mut Words) {
     }
 }
 
-/// `failure`.
-fn add_failure(page: &mut Page, coming: &mut Vec<Coming>, words: &mut Words) {
+/// `failure`, `over`: this comes.
+fn add_end(page: &mut Page, coming: &mut Vec<Coming>, words: &mut Words, end: Coming) {
     if words.end(page) {
-        let is_short = coming.push(Coming::Failure).is_err();
+        let is_short = coming.push(end).is_err();
         page.stop_if_short(is_short);
+    } else {
+        drop(end);
     }
 }
 
@@ -350,7 +345,13 @@ where
 {
     let turns = plan.turns.saturating_add(plan.coming.len() as u64);
     let mut wire = Told::new(plan.coming.as_slice());
-    serve_all(rt, alloc, shift, passes, &mut wire, outside, outside, turns)
+    let sides = Sides {
+        wire: &mut wire,
+        post: outside,
+        gate: outside,
+        turns,
+    };
+    serve_all(rt, alloc, Crew { shift, passes }, sides)
 }
 
 /// Closes a shift, and prints what became of so many datagrams. Its gateway comes back.
@@ -366,7 +367,7 @@ fn finish(page: &mut Page, shift: Shared, outcome: Outcome, count: usize) -> Gat
 
 /// `loopback FIRST SECOND`: serves what comes over a socket in a shift of the open gateway, and
 /// closes that: a datagram, and after its answer another one.
-fn play_loopback<T: Threads + Wait + Sync + Clock + Net>(
+fn play_loopback<T: Threads + Wait + Sync + Clock>(
     rt: &T,
     page: &mut Page,
     row: &mut Row,
@@ -391,7 +392,7 @@ fn questions_of(words: &mut Words) -> Questions {
 }
 
 /// Serves what is asked over a socket in a shift of a gateway, which is closed then.
-fn ask_on<T: Threads + Wait + Sync + Clock + Net>(
+fn ask_on<T: Threads + Wait + Sync + Clock>(
     rt: &T,
     page: &mut Page,
     node: Option<Gateway>,
@@ -406,7 +407,7 @@ fn ask_on<T: Threads + Wait + Sync + Clock + Net>(
 
 /// Serves what is asked over a socket, closes the shift, and prints how that went. Its gateway
 /// comes back.
-fn ask_over<T: Threads + Wait + Sync + Clock + Net>(
+fn ask_over<T: Threads + Wait + Sync + Clock>(
     rt: &T,
     page: &mut Page,
     shift: Shared,

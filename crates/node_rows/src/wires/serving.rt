@@ -9,8 +9,7 @@ use gw_node::Node;
 use gw_serve::{Cause, Taken, serve};
 use gw_shift::{CloseFault, Entry, Pass, Shift};
 use gw_wire::{Gate, Post, Wire};
-use jr_journal::{Disk, MemoryDisk};
-use rep_model::Replica;
+use jr_journal::MemoryDisk;
 use rep_plain::Plain;
 use std::alloc::Global;
 use std::sync::Wait;
@@ -22,6 +21,26 @@ pub(crate) type Gateway = Node<Plain, MemoryDisk>;
 
 /// A shift of it.
 pub(crate) type Shared = Shift<Plain, MemoryDisk>;
+
+/// A shift that is to be served, and its passes.
+#[derive(Drop)]
+pub(crate) struct Crew<'a> {
+    pub(crate) shift: &'a Shift<Plain, MemoryDisk>,
+    pub(crate) passes: Vec<Pass>,
+}
+
+/// What serving goes by.
+#[derive(Drop)]
+pub(crate) struct Sides<'a, W: Wire, P: Post, G: Gate> {
+    /// Over which datagrams come.
+    pub(crate) wire: &'a mut W,
+    /// By which answers go out.
+    pub(crate) post: &'a P,
+    /// What hears of each answer.
+    pub(crate) gate: &'a G,
+    /// How many turns the reader has.
+    pub(crate) turns: u64,
+}
 
 /// What serving handed back.
 #[derive(Drop)]
@@ -37,20 +56,20 @@ pub(crate) struct Outcome {
 
 /// A shift that is over.
 #[derive(Drop)]
-pub(crate) struct Over<R: Replica> {
-    pub(crate) node: Node<R, MemoryDisk>,
+pub(crate) struct Over {
+    pub(crate) node: Node<Plain, MemoryDisk>,
     pub(crate) history: Vec<Entry>,
     /// Why it is not closed.
     pub(crate) fault: Option<CloseFault>,
 }
 
 /// A shift of a gateway for so many workers and so many calls. There is none if memory ran out.
-pub(crate) fn shift_of<R: Replica>(
+pub(crate) fn shift_of(
     page: &mut Page,
-    node: Node<R, MemoryDisk>,
+    node: Node<Plain, MemoryDisk>,
     workers: u64,
     steps: u64,
-) -> Option<(Shift<R, MemoryDisk>, Vec<Pass>)> {
+) -> Option<(Shift<Plain, MemoryDisk>, Vec<Pass>)> {
     let opened = Shift::open(page.alloc(), node, passes_of(workers), steps_of(steps)).ok();
     if opened.is_none() {
         page.stop(Stop::Memory);
@@ -73,28 +92,28 @@ fn steps_of(steps: u64) -> u64
 }
 
 /// Serves, and tells how that ended.
-pub(crate) fn serve_all<T, R, D, W, P, G>(
+pub(crate) fn serve_all<T, W, P, G>(
     rt: &T,
     alloc: Global,
-    shift: &Shift<R, D>,
-    passes: Vec<Pass>,
-    wire: &mut W,
-    post: &P,
-    gate: &G,
-    turns: u64,
+    crew: Crew<'_>,
+    sides: Sides<'_, W, P, G>,
 ) -> Outcome
 where
     T: Threads + Wait + Sync + Clock,
-    R: Replica + Send,
-    R::Staged: Send,
-    D: Disk + Drop + Send,
     W: Wire,
     P: Post + Sync,
     G: Gate + Sync,
 {
+    let Crew { shift, passes } = crew;
     if passes.is_empty() {
         return unserved(alloc, passes, None);
     }
+    let Sides {
+        wire,
+        post,
+        gate,
+        turns,
+    } = sides;
     match serve(rt, alloc, shift, passes, wire, post, gate, turns) {
         Ok(served) => Outcome {
             passes: served.passes,
@@ -130,7 +149,7 @@ pub(crate) fn passes_back(outcome: Outcome) -> Vec<Pass> {
 }
 
 /// Ends a shift, and closes it with these passes.
-pub(crate) fn close<R: Replica>(shift: Shift<R, MemoryDisk>, passes: Vec<Pass>) -> Over<R> {
+pub(crate) fn close(shift: Shift<Plain, MemoryDisk>, passes: Vec<Pass>) -> Over {
     match calls::close_by(calls::over(shift), passes) {
         Ok(closed) => Over {
             node: closed.node,
@@ -149,7 +168,7 @@ pub(crate) fn close<R: Replica>(shift: Shift<R, MemoryDisk>, passes: Vec<Pass>) 
 }
 
 /// The gateway of a shift that is over.
-pub(crate) fn node_of<R: Replica>(over: Over<R>) -> Node<R, MemoryDisk> {
+pub(crate) fn node_of(over: Over) -> Node<Plain, MemoryDisk> {
     let Over {
         node,
         history,

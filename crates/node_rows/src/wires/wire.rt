@@ -2,7 +2,7 @@
 
 ghost use Rattle.std.specs.Prelude.{◌≤◌, ◌+◌, length, IfSome};
 
-use gw_wire::{Arrival, Tally, Wire, WireFault};
+use gw_wire::{Arrival, Came, Tally, Wire, WireFault};
 use jr_disk::Failures;
 use sn_local::Addr;
 use std::thread;
@@ -21,6 +21,8 @@ pub(crate) enum Coming {
     },
     /// It fails.
     Failure,
+    /// No more is to be received.
+    Over,
 }
 
 /// A wire that brings these things one after the other, and then nothing.
@@ -51,10 +53,10 @@ impl<'a> Wire for Told<'a> {
 
     ghost drops = { λ wire. wire.drops.count };
 
-    fn recv(&mut self, buffer: &mut [u8]) -> Result<Option<Arrival>, WireFault> {
+    fn recv(&mut self, buffer: &mut [u8]) -> Result<Came, WireFault> {
         let Some((first, rest)) = self.coming.split_first() else {
             thread::yield_now();
-            return Ok(None);
+            return Ok(Came::Nothing);
         };
         self.coming = rest;
         match first {
@@ -63,20 +65,21 @@ impl<'a> Wire for Told<'a> {
                 moment,
                 bytes,
             } => match arrived(*host, *moment, bytes.as_slice(), buffer) {
-                None => Ok(None),
+                None => Ok(Came::Nothing),
                 Some(arrival) => {
                     self.arrivals = Tally::next(&self.arrivals);
-                    Ok(Some(arrival))
+                    Ok(Came::Datagram(arrival))
                 }
             },
             Coming::Failure => {
                 self.failures = Failures::next(&self.failures);
                 Err(WireFault)
             }
+            Coming::Over => Ok(Came::Over),
         }
     }
 
-    fn unheard(&mut self) {
+    fn note_dropped(&mut self) {
         self.drops = Tally::next(&self.drops);
     }
 

@@ -10,7 +10,6 @@ use gw_node::{Answer, Node, NodeFault, Step};
 use gw_shift::{Closed, Ended, Pass, Shift};
 use jr_journal::MemoryDisk;
 use octets::{Octets, Sequence};
-use rep_model::Replica;
 use rep_plain::Plain;
 use sn_local::{Addr, Config};
 use std::sync::{Arc, Wait};
@@ -40,30 +39,27 @@ const SLEEP: [u8; 4] = [4, 0x18, 1, 0x2c];
 /// that they took.
 pub(crate) fn run<T>(rt: &T, page: &mut Page, name: &str, threads: usize, rounds: u16)
 where
-    T: Threads + Wait + Sync + Clock + Eprint + AllocGlobal,
+    T: Threads + Wait + Sync + Clock,
 {
     let step = step_of(page, name);
     if let Some(step) = &step {
-        let micros = all::<T, Plain>(rt, page, step, threads, rounds);
-        tell(rt, page, name, threads, rounds, micros);
+        let micros = all(rt, page, step, threads, rounds);
+        tell(page, name, threads, rounds, micros);
     }
     drop(step);
 }
 
 /// Prints the calls, and on standard error the microseconds that they took.
-fn tell<T>(rt: &T, page: &mut Page, name: &str, threads: usize, rounds: u16, micros: u64)
-where
-    T: Eprint + AllocGlobal,
-{
+fn tell(page: &mut Page, name: &str, threads: usize, rounds: u16, micros: u64) {
     let calls = u64::from(rounds) * 4096;
     print_work(page, name, threads, rounds);
     page.number(": ", calls);
     page.text(" calls\n");
-    let mut times = Page::new(rt.alloc());
+    let mut times = Page::new(page.host());
     print_work(&mut times, name, threads, rounds);
     times.number(" ", calls);
     times.number(" ", micros);
-    tell_times(rt, times.printed());
+    tell_times(&times);
     drop(times);
 }
 
@@ -75,8 +71,8 @@ fn print_work(page: &mut Page, name: &str, threads: usize, rounds: u16) {
 }
 
 /// A line on standard error.
-fn tell_times<T: Eprint>(rt: &T, times: &str) {
-    let _ = eprintln!(rt; "{times}");
+fn tell_times(times: &Page) {
+    let _ = eprintln!(&times.host(); "{}", times.printed());
 }
 
 /// The call of a work, to be shared.
@@ -115,54 +111,48 @@ fn shared_frame(page: &mut Page, bytes: Octets) -> Option<Arc<Step>> {
 }
 
 /// The microseconds that all rounds took.
-fn all<T, R>(rt: &T, page: &mut Page, step: &Arc<Step>, threads: usize, rounds: u16) -> u64
+fn all<T>(rt: &T, page: &mut Page, step: &Arc<Step>, threads: usize, rounds: u16) -> u64
 where
-    T: Threads + Wait + Sync + Clock + AllocGlobal,
-    R: Replica + Send,
-    R::Staged: Send,
+    T: Threads + Wait + Sync + Clock,
 {
     let mut micros = 0_u64;
     for _ in 0..rounds {
-        micros = micros.wrapping_add(round::<T, R>(rt, page, step, threads));
+        micros = micros.wrapping_add(round(rt, page, step, threads));
     }
     micros
 }
 
 /// The microseconds that a round took.
-fn round<T, R>(rt: &T, page: &mut Page, step: &Arc<Step>, threads: usize) -> u64
+fn round<T>(rt: &T, page: &mut Page, step: &Arc<Step>, threads: usize) -> u64
 where
-    T: Threads + Wait + Sync + Clock + AllocGlobal,
-    R: Replica + Send,
-    R::Staged: Send,
+    T: Threads + Wait + Sync + Clock,
 {
-    match gateway::<R>(page) {
+    match gateway(page) {
         Some(node) => round_of(rt, page, node, step, threads),
         None => 0,
     }
 }
 
 /// The microseconds that a round of this gateway took.
-fn round_of<T, R>(
+fn round_of<T>(
     rt: &T,
     page: &mut Page,
-    node: Gateway<R>,
+    node: Gateway<Plain>,
     step: &Arc<Step>,
     threads: usize,
 ) -> u64
 where
-    T: Threads + Wait + Sync + Clock + AllocGlobal,
-    R: Replica + Send,
-    R::Staged: Send,
+    T: Threads + Wait + Sync + Clock,
 {
     if threads == 0 {
-        direct(rt, page, node, step)
+        direct(page, node, step)
     } else {
         by_threads(rt, page, node, step, threads)
     }
 }
 
 /// Gateway 1 on an empty disk, with a client that has connected.
-fn gateway<R: Replica>(page: &mut Page) -> Option<Gateway<R>> {
+fn gateway(page: &mut Page) -> Option<Gateway<Plain>> {
     match told(page.alloc(), 1, 0, Sequence::empty(page.alloc())) {
         Some(config) => opened(page, config),
         None => {
@@ -173,8 +163,8 @@ fn gateway<R: Replica>(page: &mut Page) -> Option<Gateway<R>> {
 }
 
 /// A gateway on an empty disk, with a client that has connected.
-fn opened<R: Replica>(page: &mut Page, config: Config) -> Option<Gateway<R>> {
-    match open_node::<R>(page.alloc(), config, MemoryDisk::new(page.alloc())) {
+fn opened(page: &mut Page, config: Config) -> Option<Gateway<Plain>> {
+    match open_node::<Plain>(page.alloc(), config, MemoryDisk::new(page.alloc())) {
         Ok(node) => Some(greeted(page, node)),
         Err((disk, fault)) => {
             note_unopened(page, disk, fault);
@@ -191,7 +181,7 @@ fn note_unopened(page: &mut Page, disk: MemoryDisk, fault: NodeFault) {
 }
 
 /// The gateway once the client has connected.
-fn greeted<R: Replica>(page: &mut Page, node: Gateway<R>) -> Gateway<R> {
+fn greeted(page: &mut Page, node: Gateway<Plain>) -> Gateway<Plain> {
     let mut node = node;
     let answer = node.frame(page.alloc(), CLIENT, &CONNECT, 0);
     check(page, &answer, node.starved());
@@ -215,9 +205,9 @@ fn check(page: &mut Page, answer: &Answer, is_starved: bool) {
 }
 
 /// The microseconds since a moment; 0 if the clock failed.
-fn since<T: Clock>(rt: &T, page: &mut Page, start: &Option<Instant>) -> u64 {
+fn since(page: &mut Page, start: &Option<Instant>) -> u64 {
     if let Some(start) = start {
-        if let Ok(taken) = start.elapsed(rt) {
+        if let Ok(taken) = start.elapsed(&page.host()) {
             return (taken.as_micros() % 1_000_000_000_000) as u64;
         }
     }
@@ -226,24 +216,24 @@ fn since<T: Clock>(rt: &T, page: &mut Page, start: &Option<Instant>) -> u64 {
 }
 
 /// The calls, made by the one that owns the gateway: the microseconds that they took.
-fn direct<T: Clock, R: Replica>(rt: &T, page: &mut Page, node: Gateway<R>, step: &Step) -> u64 {
+fn direct(page: &mut Page, node: Gateway<Plain>, step: &Step) -> u64 {
     let mut node = node;
-    let micros = timed(rt, page, &mut node, step);
+    let micros = timed(page, &mut node, step);
     drop(node);
     micros
 }
 
 /// The microseconds that the calls of this gateway took.
-fn timed<T: Clock, R: Replica>(rt: &T, page: &mut Page, node: &mut Gateway<R>, step: &Step) -> u64 {
-    let start = Instant::now(rt).ok();
+fn timed(page: &mut Page, node: &mut Gateway<Plain>, step: &Step) -> u64 {
+    let start = Instant::now(&page.host()).ok();
     for _ in 0..CALLS {
         call(page, node, step);
     }
-    since(rt, page, &start)
+    since(page, &start)
 }
 
 /// A call, which is not refused.
-fn call<R: Replica>(page: &mut Page, node: &mut Gateway<R>, step: &Step) {
+fn call(page: &mut Page, node: &mut Gateway<Plain>, step: &Step) {
     let answers = call_thrice(page.alloc(), node, step);
     check(page, &answers.0, node.starved());
     drop(answers);
@@ -251,17 +241,15 @@ fn call<R: Replica>(page: &mut Page, node: &mut Gateway<R>, step: &Step) {
 
 /// The calls, made by threads that share the gateway: the microseconds that they took. The shift is
 /// closed.
-fn by_threads<T, R>(
+fn by_threads<T>(
     rt: &T,
     page: &mut Page,
-    node: Gateway<R>,
+    node: Gateway<Plain>,
     step: &Arc<Step>,
     threads: usize,
 ) -> u64
 where
     T: Threads + Wait + Sync + Clock,
-    R: Replica + Send,
-    R::Staged: Send,
 {
     let each = CALLS / threads.max(1);
     match shifts::open(page, node, threads, 4096) {
@@ -272,18 +260,16 @@ where
 
 /// The passes of a shift make so many calls each, all at once: the microseconds that these take.
 /// The shift is closed.
-fn at_once<T, R>(
+fn at_once<T>(
     rt: &T,
     page: &mut Page,
-    shift: Shift<R, MemoryDisk>,
+    shift: Shift<Plain, MemoryDisk>,
     passes: Vec<Pass>,
     step: &Arc<Step>,
     each: usize,
 ) -> u64
 where
     T: Threads + Wait + Sync + Clock,
-    R: Replica + Send,
-    R::Staged: Send,
 {
     let mut seats = Vec::new(page.alloc());
     seat_all(page, &mut seats, passes);
@@ -293,28 +279,26 @@ where
 }
 
 /// The microseconds that the calls of all seats took, so many of each.
-fn timed_at_once<T, R>(
+fn timed_at_once<T>(
     rt: &T,
     page: &mut Page,
-    shift: &Shift<R, MemoryDisk>,
+    shift: &Shift<Plain, MemoryDisk>,
     seats: &mut [Seat],
     step: &Arc<Step>,
     each: usize,
 ) -> u64
 where
     T: Threads + Wait + Sync + Clock,
-    R: Replica + Send,
-    R::Staged: Send,
 {
-    let start = Instant::now(rt).ok();
+    let start = Instant::now(&page.host()).ok();
     let is_short = call_all(rt, page.alloc(), shift, seats, step, each);
-    let micros = since(rt, page, &start);
+    let micros = since(page, &start);
     page.stop_if_short(is_short);
     micros
 }
 
 /// Closes a shift with the passes of all seats, each of which has made so many calls.
-fn close<R: Replica>(page: &mut Page, shift: Shift<R, MemoryDisk>, seats: Vec<Seat>, each: usize) {
+fn close(page: &mut Page, shift: Shift<Plain, MemoryDisk>, seats: Vec<Seat>, each: usize) {
     let calls = each.saturating_mul(seats.len());
     let passes = risen(page, seats);
     close_with(page, over(shift), passes, calls);
@@ -330,12 +314,7 @@ fn risen(page: &mut Page, seats: Vec<Seat>) -> Vec<Pass> {
 }
 
 /// Closes a shift that is over with these passes, which have made so many calls.
-fn close_with<R: Replica>(
-    page: &mut Page,
-    over: Ended<R, MemoryDisk>,
-    passes: Vec<Pass>,
-    calls: usize,
-) {
+fn close_with(page: &mut Page, over: Ended<Plain, MemoryDisk>, passes: Vec<Pass>, calls: usize) {
     match close_by(over, passes) {
         Ok(closed) => check_closed(page, closed, calls),
         Err(refused) => {
@@ -346,7 +325,7 @@ fn close_with<R: Replica>(
 }
 
 /// A closed shift has so many calls, and no memory was refused in its disk.
-fn check_closed<R: Replica>(page: &mut Page, closed: Closed<R, MemoryDisk>, calls: usize) {
+fn check_closed(page: &mut Page, closed: Closed<Plain, MemoryDisk>, calls: usize) {
     page.stop_if_short(closed.node.starved());
     if closed.history.len() != calls {
         page.stop(Stop::Work);

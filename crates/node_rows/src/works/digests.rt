@@ -6,20 +6,19 @@ use crate::stop::{Stop, unworked};
 use crate::works::check;
 use crate::works::pair::{asker, peer};
 use rep_digest::Digest;
-use rep_model::Replica;
 use rep_ops::Delta;
 use rep_plain::Plain;
 
 /// Makes the digest of what the one gateway has, and the other's answer to it, so often, and says
 /// how large they are beside all that the other holds.
 pub(crate) fn run(page: &mut Page, rounds: u32) {
-    run_on::<Plain>(page, rounds);
+    run_on(page, rounds);
 }
 
 /// The same on a replica.
-fn run_on<R: Replica>(page: &mut Page, rounds: u32) {
-    let asker = asker::<R>(page);
-    let peer = peer::<R>(page);
+fn run_on(page: &mut Page, rounds: u32) {
+    let asker = asker(page);
+    let peer = peer(page);
     if let Some(asker) = &asker {
         if let Some(peer) = &peer {
             measure(page, asker, peer, rounds);
@@ -30,7 +29,7 @@ fn run_on<R: Replica>(page: &mut Page, rounds: u32) {
 }
 
 /// Digest and answer, so often: how large they are, and all that the other holds.
-fn measure<R: Replica>(page: &mut Page, asker: &R, peer: &R, rounds: u32) {
+fn measure(page: &mut Page, asker: &Plain, peer: &Plain, rounds: u32) {
     for _ in 0..rounds {
         exchange(page, asker, peer);
     }
@@ -44,7 +43,7 @@ fn measure<R: Replica>(page: &mut Page, asker: &R, peer: &R, rounds: u32) {
 }
 
 /// Digest and answer, once.
-fn exchange<R: Replica>(page: &mut Page, asker: &R, peer: &R) {
+fn exchange(page: &mut Page, asker: &Plain, peer: &Plain) {
     match digest_of(page.alloc(), asker) {
         Ok(digest) => {
             drop(answer(page, peer, &digest));
@@ -55,7 +54,7 @@ fn exchange<R: Replica>(page: &mut Page, asker: &R, peer: &R) {
 }
 
 /// The answer to a digest; no delta if it was refused.
-fn answer<R: Replica>(page: &mut Page, peer: &R, digest: &Digest) -> Vec<Delta> {
+fn answer(page: &mut Page, peer: &Plain, digest: &Digest) -> Vec<Delta> {
     match answer_to(page.alloc(), peer, digest) {
         Ok(deltas) => deltas,
         Err(fault) => {
@@ -66,7 +65,7 @@ fn answer<R: Replica>(page: &mut Page, peer: &R, digest: &Digest) -> Vec<Delta> 
 }
 
 /// How large a digest, the answer to it, and all that is held are.
-fn print<R: Replica>(page: &mut Page, peer: &R, digest: &Digest) {
+fn print(page: &mut Page, peer: &Plain, digest: &Digest) {
     print_size(page, digest);
     let answer = answer(page, peer, digest);
     print_sizes(page, "; answers: ", answer.as_slice());
@@ -76,7 +75,7 @@ fn print<R: Replica>(page: &mut Page, peer: &R, digest: &Digest) {
 }
 
 /// How large all that is held is.
-fn print_held<R: Replica>(page: &mut Page, peer: &R) {
+fn print_held(page: &mut Page, peer: &Plain) {
     match held_by(page.alloc(), peer) {
         Some(held) => {
             print_sizes(page, "; held: ", held.as_slice());

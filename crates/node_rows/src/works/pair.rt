@@ -9,6 +9,7 @@ use crate::works::making::{self, add_put, add_take};
 use crate::works::numbers::{Numbers, body};
 use rep_model::{Replica, TakeFault};
 use rep_ops::{ClientId, Delta, Op};
+use rep_plain::Plain;
 use sn_tables::QosLevel;
 
 const CLIENTS: u16 = 1000;
@@ -21,22 +22,22 @@ const ORIGINS: u16 = 4;
 const BODY: usize = 64;
 
 /// The gateway that has all.
-pub(crate) fn peer<R: Replica>(page: &mut Page) -> Option<R> {
+pub(crate) fn peer(page: &mut Page) -> Option<Plain> {
     let ops = operations(page, false);
     taken(page, ops)
 }
 
 /// The gateway that was away.
-pub(crate) fn asker<R: Replica>(page: &mut Page) -> Option<R> {
+pub(crate) fn asker(page: &mut Page) -> Option<Plain> {
     let ops = operations(page, true);
     taken(page, ops)
 }
 
 /// A gateway that has taken these operations.
-fn taken<R: Replica>(page: &mut Page, ops: Vec<Op>) -> Option<R> {
+fn taken(page: &mut Page, ops: Vec<Op>) -> Option<Plain> {
     match delta_of(page.alloc(), ops) {
         Ok(delta) => {
-            let replica = taker::<R>(page, &delta);
+            let replica = taker(page, &delta);
             drop(delta);
             replica
         }
@@ -48,8 +49,8 @@ fn taken<R: Replica>(page: &mut Page, ops: Vec<Op>) -> Option<R> {
 }
 
 /// A gateway that has taken this delta.
-fn taker<R: Replica>(page: &mut Page, delta: &Delta) -> Option<R> {
-    match R::empty(page.alloc()) {
+fn taker(page: &mut Page, delta: &Delta) -> Option<Plain> {
+    match Plain::empty(page.alloc()) {
         Ok(replica) => {
             let mut replica = replica;
             take_all(page, &mut replica, delta);
@@ -63,7 +64,7 @@ fn taker<R: Replica>(page: &mut Page, delta: &Delta) -> Option<R> {
 }
 
 /// A gateway takes a delta.
-fn take_all<R: Replica>(page: &mut Page, replica: &mut R, delta: &Delta) {
+fn take_all(page: &mut Page, replica: &mut Plain, delta: &Delta) {
     match take_delta(page.alloc(), replica, delta) {
         Ok(()) => {}
         Err(TakeFault::Memory) => page.stop(Stop::Memory),

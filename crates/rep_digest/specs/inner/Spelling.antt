@@ -7,17 +7,17 @@ use Rattle.rep_digest.specs.declared.entry.RetainedEntry.{RetainedEntry}
 use Rattle.rep_digest.specs.Spelling.{topics_octets}
 
 -- counts that fit their octets: ranges four, origins two
-abbrev pub AreFew : OriginEntry → Type 0
-AreFew o = (length o.acknowledged < 2 ^ 32) × (length o.waiting < 2 ^ 32)
+abbrev pub HaveFewRanges : OriginEntry → Type 0
+HaveFewRanges o = (length o.acknowledged < 2 ^ 32) × (length o.waiting < 2 ^ 32)
 
 -- the counts of an entry fit the octets that they are written in
-pub record IsWritable (e : ClientEntry) : Type 0 where
+pub record IsEntryWritable (e : ClientEntry) : Type 0 where
   pub origins : length e.origins < 2 ^ 16
-  pub ranges : AllByRecursion AreFew e.origins
+  pub ranges : AllByRecursion HaveFewRanges e.origins
 
 -- what is left of a number of octets after so many; nothing if they do not fit
-abbrev pub Leaves : ℕ → ℕ → Option ℕ → Type 0
-Leaves octets room result = MatchOption result (room < octets) (λ rest. rest + octets ≡ room)
+abbrev pub LeavesRoom : ℕ → ℕ → Option ℕ → Type 0
+LeavesRoom octets room result = MatchOption result (room < octets) (λ rest. rest + octets ≡ room)
 
 -- how many octets there are of topics
 abbrev pub some_topics : List RetainedEntry → ℕ

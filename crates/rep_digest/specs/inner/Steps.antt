@@ -3,7 +3,7 @@ use Rattle.std.specs.Prelude.{◌≡◌, ℕ, ◌+◌, ◌==◌, if◌then◌els
 use Rattle.std.specs.List.{filter_map}
 use Rattle.rep_op.specs.declared.op.Put.{Put}
 use Rattle.rep_op.specs.declared.op.Op.{Op}
-use Rattle.rep_op.specs.declared.op.Op.TheVariants.{Session as OfSession, Put as OfPut, Ack, Retain as OfRetain}
+use Rattle.rep_op.specs.declared.op.Op.TheVariants.{Ack}
 use Rattle.rep_op.specs.Sets.{same_client}
 use Rattle.rep_digest.specs.declared.groups.Acknowledged.{Acknowledged}
 use Rattle.rep_model.specs.declared.view.ClientView.{ClientView}
@@ -18,11 +18,9 @@ use Rattle.rep_digest.specs.Digests.{has_ranges, numbers_from, entry_of_topic}
 
 -- the client's acknowledgements in one operation
 abbrev pub acknowledged_by : List ℕ → Op → Option Acknowledged
-acknowledged_by c (OfSession d stamp counter change) = None
-acknowledged_by c (OfPut d put) = None
 acknowledged_by c (Ack d origin first last) =
     if same_client c d then Some (record { origin = origin; first = first; last = last }) else None
-acknowledged_by c (OfRetain topic kept) = None
+acknowledged_by c op = None
 
 -- the client's acknowledgements in these operations
 abbrev pub group : List Op → List ℕ → List Acknowledged
@@ -39,8 +37,8 @@ abbrev pub numbers_of : ℕ → Acknowledged → Option (ℕ × ℕ)
 numbers_of origin a = if origin == a.origin then Some (a.first, a.last) else None
 
 -- the sequence number of a message of this origin; none of another's
-abbrev pub seq_of : ℕ → Put → Option ℕ
-seq_of origin put = if origin == put.origin then Some put.seq else None
+abbrev pub seq_if_own : ℕ → Put → Option ℕ
+seq_if_own origin put = if origin == put.origin then Some put.seq else None
 
 -- a number after the others; it joins the last range if it touches it
 abbrev pub with_number : List (ℕ × ℕ) → ℕ → List (ℕ × ℕ)
@@ -57,7 +55,7 @@ abbrev pub drafted : List Acknowledged → List Put → ℕ → OriginEntry
 drafted acks pending origin = record {
   origin = origin;
   acknowledged = filter_map (numbers_of origin) acks;
-  waiting = in_ranges_of (filter_map (seq_of origin) pending);
+  waiting = in_ranges_of (filter_map (seq_if_own origin) pending);
 }
 
 -- the origins 1 to 255 that have ranges

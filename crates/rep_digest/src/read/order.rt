@@ -52,8 +52,8 @@ fn are_all_apart(origins: &[OriginEntry]) -> bool
 }
 
 /// Whether an entry may stand after these.
-pub fn may_follow(entries: &[ClientEntry], entry: &ClientEntry) -> bool
-    ensures { result ≡ spec.may_follow entries.now entry.now }
+pub fn entry_may_follow(entries: &[ClientEntry], entry: &ClientEntry) -> bool
+    ensures { result ≡ spec.entry_may_follow entries.now entry.now }
 {
     is_ordered(entry) && is_behind(entries, entry)
 }
@@ -69,17 +69,17 @@ ghost use Rattle.rep_ops.specs.Reading.{follows_last};
 
 /// Whether the client comes after those of the entries.
 fn is_behind(entries: &[ClientEntry], entry: &ClientEntry) -> bool
-    ensures { result ≡ follows_last spec.is_next entries.now entry.now }
+    ensures { result ≡ follows_last spec.is_client_next entries.now entry.now }
 {
     match entries.last() {
         None => true,
-        Some(last) => is_next(last, entry),
+        Some(last) => is_client_next(last, entry),
     }
 }
 
 /// Whether the client of the second comes after that of the first.
-fn is_next(entry: &ClientEntry, next: &ClientEntry) -> bool
-    ensures { result ≡ spec.is_next entry.now next.now }
+fn is_client_next(entry: &ClientEntry, next: &ClientEntry) -> bool
+    ensures { result ≡ spec.is_client_next entry.now next.now }
 {
     entry.client < next.client
 }

@@ -1,7 +1,7 @@
 //! The parts of an entry.
 
 ghost use Rattle.std.specs.Prelude.{◌≡◌, []};
-ghost use Rattle.rep_read.specs.Reading.{Gives, range_at, many_at};
+ghost use Rattle.rep_read.specs.Reading.{ReadsAs, range_at, many_at};
 ghost use Rattle.rep_digest.specs.Reading.{ranges_at, origin_at, seen_at};
 
 use crate::entry::OriginEntry;
@@ -15,7 +15,7 @@ use std::alloc::Global;
 /// A range.
 #[tactic(auto, unfolding(rep_read::specs::Reading::range_at))]
 fn read_range(bytes: &[u8]) -> Result<((u64, u64), &[u8]), OpsFault>
-    ensures { Gives (λ x. (x.0, x.1.now)) result (range_at bytes.now) }
+    ensures { ReadsAs (λ x. (x.0, x.1.now)) result (range_at bytes.now) }
 {
     let (first, rest) = read_counted_eight(bytes)?;
     let (last, rest) = read_eight(rest)?;
@@ -31,7 +31,7 @@ fn read_each_range(
     count: u32,
     bytes: &[u8],
 ) -> Result<(Vec<(u64, u64)>, &[u8]), OpsFault>
-    ensures { Gives (λ x. (x.0.items, x.1.now)) result (many_at range_at count [] bytes.now) }
+    ensures { ReadsAs (λ x. (x.0.items, x.1.now)) result (many_at range_at count [] bytes.now) }
 {
     let mut ranges = Vec::new(alloc);
     let mut rest = bytes;
@@ -46,7 +46,7 @@ fn read_each_range(
 /// Ranges.
 #[tactic(auto, unfolding(crate::specs::Reading::ranges_at))]
 fn read_ranges(alloc: Global, bytes: &[u8]) -> Result<(Sequence<(u64, u64)>, &[u8]), OpsFault>
-    ensures { Gives (λ x. (x.0, x.1.now)) result (ranges_at bytes.now) }
+    ensures { ReadsAs (λ x. (x.0, x.1.now)) result (ranges_at bytes.now) }
 {
     let (count, rest) = read_four(bytes)?;
     let (ranges, rest) = read_each_range(alloc, count, rest)?;
@@ -56,7 +56,7 @@ fn read_ranges(alloc: Global, bytes: &[u8]) -> Result<(Sequence<(u64, u64)>, &[u
 /// An origin.
 #[tactic(auto, unfolding(crate::specs::Reading::origin_at))]
 pub fn read_origin(alloc: Global, bytes: &[u8]) -> Result<(OriginEntry, &[u8]), OpsFault>
-    ensures { Gives (λ x. (x.0, x.1.now)) result (origin_at bytes.now) }
+    ensures { ReadsAs (λ x. (x.0, x.1.now)) result (origin_at bytes.now) }
 {
     let (origin, rest) = read_counted_octet(bytes)?;
     let (acknowledged, rest) = read_ranges(alloc, rest)?;
@@ -76,7 +76,7 @@ pub fn read_origin(alloc: Global, bytes: &[u8]) -> Result<(OriginEntry, &[u8]), 
 /// Epoch, gateway and prefix: all 0, or none of them.
 #[tactic(auto, unfolding(crate::specs::Reading::seen_at))]
 pub fn read_seen(bytes: &[u8]) -> Result<((u64, u8, u16), &[u8]), OpsFault>
-    ensures { Gives (λ x. ((x.0.0, (x.0.1, x.0.2)), x.1.now)) result (seen_at bytes.now) }
+    ensures { ReadsAs (λ x. ((x.0.0, (x.0.1, x.0.2)), x.1.now)) result (seen_at bytes.now) }
 {
     let (epoch, rest) = read_eight(bytes)?;
     let (gateway, rest) = read_octet(rest)?;

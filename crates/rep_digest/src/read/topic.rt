@@ -1,7 +1,7 @@
 //! An entry of a topic.
 
 ghost use Rattle.std.specs.Prelude.{◌≡◌};
-ghost use Rattle.rep_read.specs.Reading.{Gives};
+ghost use Rattle.rep_read.specs.Reading.{ReadsAs};
 ghost use Rattle.rep_digest.specs.Reading.{retained_at};
 
 use crate::entry::RetainedEntry;
@@ -11,7 +11,7 @@ use std::alloc::Global;
 /// An entry of a topic.
 #[tactic(auto, unfolding(crate::specs::Reading::retained_at))]
 pub fn read_retained(alloc: Global, bytes: &[u8]) -> Result<(RetainedEntry, &[u8]), OpsFault>
-    ensures { Gives (λ x. (x.0, x.1.now)) result (retained_at bytes.now) }
+    ensures { ReadsAs (λ x. (x.0, x.1.now)) result (retained_at bytes.now) }
 {
     let (topic, rest) = read_topic(alloc, bytes)?;
     let (clock, rest) = read_counted_eight(rest)?;

@@ -6,8 +6,8 @@ use Rattle.rep_op.specs.declared.op.Stamp.{Stamp}
 use Rattle.rep_shared.specs.Steps.{capped, waits}
 use Rattle.rep_log.specs.declared.log.Log.{Log}
 use Rattle.rep_entry.specs.declared.entry.Entry.{Entry}
-use Rattle.rep_log.specs.Logs.{all_of, stamp_on, prefix_on, session_on, known_on}
-use Rattle.rep_log.specs.Origins.{above_gaps}
+use Rattle.rep_log.specs.Logs.{all_in_log, stamp_on, prefix_on, session_on, known_on}
+use Rattle.rep_log.specs.Origins.{origins_above_gaps}
 
 -- the entry with the log, if one is staged
 abbrev pub with_log : Entry → Option Log → Entry
@@ -28,12 +28,12 @@ with_log entry log = record {
 abbrev pub parked_on : Entry → Option Log → ℕ
 parked_on entry None = entry.parked
 parked_on entry (Some log) =
-    count_by (waits log.stamp log.prefix) (keys_of (all_of entry.known log))
+    count_by (waits log.stamp log.prefix) (keys_of (all_in_log entry.known log))
 
 -- how many acknowledgements are above a gap; the count stays if none are staged
 abbrev pub exceptions_on : Entry → Option (List (ℕ × List (ℕ × ℕ))) → ℕ
 exceptions_on entry None = entry.exceptions
-exceptions_on entry (Some acks) = capped (above_gaps acks 255)
+exceptions_on entry (Some acks) = capped (origins_above_gaps acks 255)
 
 -- there is room for the operations after those that are there
 abbrev pub HasLogRoom : List ((Stamp × ℕ) × SessionOp) → Option Log → ℕ → Type 0

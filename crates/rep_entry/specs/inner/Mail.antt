@@ -2,7 +2,7 @@
 use Rattle.std.specs.Prelude.{ℕ, min, max, Bool, true, false, List, [], ◌∷◌, ◌++◌, take, drop, filter}
 use Rattle.rep_op.specs.declared.op.Put.{Put}
 use Rattle.rep_entry.specs.declared.span.Span.{Span}
-use Rattle.rep_log.specs.Mail.{goes_before, Range, is_left}
+use Rattle.rep_log.specs.Mail.{goes_before, Range, is_uncovered}
 
 -- whether the first of the messages is delivered before p
 abbrev pub begins_before : Put → List Put → Bool
@@ -16,7 +16,7 @@ are_behind p (n ∷ ns) = goes_before p n
 
 -- the messages once those from a place on are without the acknowledged ones
 abbrev pub left_from : List Range → ℕ → List Put → List Put
-left_from ranges at ps = take at ps ++ filter (is_left ranges) (drop at ps)
+left_from ranges at ps = take at ps ++ filter (is_uncovered ranges) (drop at ps)
 
 -- as far as the span and the numbers first to last reach
 abbrev pub widened : Span → ℕ → ℕ → Span

@@ -4,8 +4,8 @@ use Rattle.rep_op.specs.declared.op.Stamp.{Stamp}
 use Rattle.rep_op.specs.declared.op.Put.{Put}
 
 -- the epoch in the name of a session operation
-abbrev pub epoch_of : Stamp × ℕ → ℕ
-epoch_of name = name.0.epoch
+abbrev pub operation_epoch : Stamp × ℕ → ℕ
+operation_epoch name = name.0.epoch
 
 -- the sequence number of a message of the gateway, or 0
 abbrev pub seq_from : ℕ → Put → ℕ

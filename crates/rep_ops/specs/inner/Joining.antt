@@ -25,6 +25,6 @@ united_from a (b ∷ rest) =
     if joins a b then united_from (united a b) rest else a ∷ united_from b rest
 
 -- the operations with those of one name made one, and ranges that overlap or touch joined
-abbrev pub joined : List Op → List Op
-joined [] = []
-joined (a ∷ rest) = united_from a rest
+abbrev pub joined_ops : List Op → List Op
+joined_ops [] = []
+joined_ops (a ∷ rest) = united_from a rest

@@ -13,9 +13,9 @@ kept_rows [] = []
 kept_rows (row ∷ rows) = keep row.1 ++ kept_rows rows
 
 -- a client's row with the operations of a list after it, if the list has any of the client
-abbrev pub grown : List ℕ → List (List ℕ × List Op) → List Op → Option (List Op)
-grown c rows D = if has_any (of_client c D) then Some (own c rows ++ of_client c D) else None
+abbrev pub row_grown : List ℕ → List (List ℕ × List Op) → List Op → Option (List Op)
+row_grown c rows D = if has_any (of_client c D) then Some (own c rows ++ of_client c D) else None
 
 -- fresh rows for the clients of a list
 abbrev pub IsGrown : List (List ℕ × List Op) → List Op → List (List ℕ × List Op) → Type 0
-IsGrown rows D fresh = (c : List ℕ) → find client_cmp c fresh ≡ grown c rows D
+IsGrown rows D fresh = (c : List ℕ) → find client_cmp c fresh ≡ row_grown c rows D

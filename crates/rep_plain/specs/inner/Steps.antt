@@ -17,34 +17,33 @@ first_of_two (Some a) b = Some a
 
 -- the client's acknowledgements in one operation
 abbrev pub range_in : List ℕ → Op → Option Range
-range_in c (OfSession d stamp counter change) = None
-range_in c (OfPut d put) = None
 range_in c (Ack d origin first last) =
     if same_client c d then Some (record { origin = origin; first = first; last = last }) else None
-range_in c (OfRetain topic kept) = None
+range_in c op = None
 
 -- whether the range has the name of the put
-abbrev pub covers : ℕ × ℕ → Range → Bool
-covers name range =
+abbrev pub range_has : ℕ × ℕ → Range → Bool
+range_has name range =
     (name.1 == range.origin) && nat_le range.first name.0 && nat_le name.0 range.last
 
 -- the client's puts that no range covers, under their names
 abbrev pub unacknowledged_by : List Range → List ℕ → List Op → List ((ℕ × ℕ) × Put)
-unacknowledged_by ranges c S = filter (λ e. not (list_any (covers e.0) ranges)) (puts c S)
+unacknowledged_by ranges c S = filter (λ e. not (list_any (range_has e.0) ranges)) (puts c S)
 
 -- the sequence numbers of the origin in the range
-abbrev pub numbers : ℕ → Range → Option (ℕ × ℕ)
-numbers origin range =
+abbrev pub range_numbers : ℕ → Range → Option (ℕ × ℕ)
+range_numbers origin range =
     if (origin == range.origin) && nat_le range.first range.last then Some (range.first, range.last)
     else None
 
 -- the acknowledgements above a gap, of the origins 1 to n
 unfoldable pub above_gaps : List Range → ℕ → ℕ
-above_gaps ranges n = sum_to (λ origin. above_a_gap (joined (filter_map (numbers origin) ranges))) n
+above_gaps ranges n =
+    sum_to (λ origin. above_a_gap (joined (filter_map (range_numbers origin) ranges))) n
 
 -- whether the operation must be kept, by the visible stamp and the acknowledgements of its client
 abbrev pub must_stay : Option Stamp → List Range → Op → Bool
 must_stay seen ranges (OfSession c stamp counter change) = not (is_below stamp seen)
-must_stay seen ranges (OfPut c put) = not (list_any (covers (put.seq, put.origin)) ranges)
+must_stay seen ranges (OfPut c put) = not (list_any (range_has (put.seq, put.origin)) ranges)
 must_stay seen ranges (Ack c origin first last) = true
 must_stay seen ranges (OfRetain topic kept) = true

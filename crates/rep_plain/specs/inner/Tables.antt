@@ -11,8 +11,8 @@ use Rattle.rep_model.specs.declared.fault.TheConstants.{MOST_PENDING, MOST_PARKE
 use Rattle.rep_model.specs.declared.fault.Limit.{Limit}
 use Rattle.rep_shared.specs.inner.Tables.{passed_of}
 use Rattle.rep_plain.specs.declared.entry.Entry.{Entry}
-use Rattle.rep_shared.specs.Rows.{flat, moved, CanGoBack}
-use Rattle.rep_plain.specs.Tables.{rows_of, AreEntries, IsTable}
+use Rattle.rep_shared.specs.Rows.{flat, rows_with, CanGoBack}
+use Rattle.rep_plain.specs.Tables.{rows_of, AreEntries, IsPlainTable}
 
 -- the operations of each client, if there is nothing else yet
 abbrev pub groups_of : List (List ℕ × Vec Op Global) → List (List ℕ × List Op)
@@ -21,17 +21,17 @@ groups_of groups = map (λ e. (e.0, e.1.items)) groups
 -- the table with more places, and nothing in them
 pub record IsRoomier (old new : List (List ℕ × Entry)) : Type 0 where
   pub same : flat (rows_of new) ≡ flat (rows_of old)
-  pub table : (count : ℕ) → IsTable old count → IsTable new count
+  pub table : (count : ℕ) → IsPlainTable old count → IsPlainTable new count
   pub found : (c : List ℕ) → IsSome (find client_cmp c (rows_of old))
       → IsSome (find client_cmp c (rows_of new))
-  pub back : (count : ℕ) → IsTable old count → (aside : List (List ℕ × List Op))
+  pub back : (count : ℕ) → IsPlainTable old count → (aside : List (List ℕ × List Op))
       → CanGoBack (rows_of old) aside → CanGoBack (rows_of new) aside
-      × (flat (moved (rows_of new) aside) ≡ flat (moved (rows_of old) aside))
+      × (flat (rows_with (rows_of new) aside) ≡ flat (rows_with (rows_of old) aside))
 
 -- more of the rows lies aside, and is put back as before
 pub record IsSaving (rows old new : List (List ℕ × List Op)) : Type 0 where
   pub can : CanGoBack rows old → CanGoBack rows new
-  pub same : moved rows new ≡ moved rows old
+  pub same : rows_with rows new ≡ rows_with rows old
   pub found : (c : List ℕ) → IsSome (find client_cmp c old) → IsSome (find client_cmp c new)
 
 -- the fresh entries can be moved into the table
@@ -42,18 +42,16 @@ pub record AreMovable (entries fresh : List (List ℕ × Entry)) : Type 0 where
 
 -- whether the range of acknowledgements is within the operation
 abbrev pub has_range : List ℕ → ℕ → ℕ → ℕ → Op → Bool
-has_range c origin first last (OfSession d stamp counter change) = false
-has_range c origin first last (OfPut d put) = false
-has_range c origin first last (OfRetain topic kept) = false
 has_range c origin first last (Ack d o start end) =
     same_client c d && (origin == o) && nat_le start first && nat_le last end
+has_range c origin first last op = false
 
 -- whether the list has the operation's name; it has none of a topic
-abbrev pub is_known : List Op → Op → Bool
-is_known S (OfSession c stamp counter change) = is_some (operation_at c S (stamp, counter))
-is_known S (OfPut c put) = is_some (put_at c S (put.seq, put.origin))
-is_known S (Ack c origin first last) = list_any (has_range c origin first last) S
-is_known S (OfRetain topic kept) = false
+abbrev pub is_op_there : List Op → Op → Bool
+is_op_there S (OfSession c stamp counter change) = is_some (operation_at c S (stamp, counter))
+is_op_there S (OfPut c put) = is_some (put_at c S (put.seq, put.origin))
+is_op_there S (Ack c origin first last) = list_any (has_range c origin first last) S
+is_op_there S (OfRetain topic kept) = false
 
 -- whether more than 16,384 messages wait for the client
 abbrev pub too_many_pending : List ℕ × Entry → Bool
@@ -75,4 +73,4 @@ passed_by count fresh =
 
 -- the operation, if its name is new
 abbrev pub one_new : List Op → Op → List Op
-one_new S op = if not (is_known S op) then op ∷ [] else []
+one_new S op = if not (is_op_there S op) then op ∷ [] else []

@@ -5,7 +5,7 @@ use Rattle.rep_op.specs.declared.op.Op.{Op}
 use Rattle.rep_retain.specs.declared.staged.TopicsStaged.{TopicsStaged}
 use Rattle.rep_retain.specs.declared.staged.TopicsStaged.TheVariants.{Nothing, Entry, Table}
 use Rattle.rep_retain.specs.inner.Tables.{with_ops}
-use Rattle.rep_retain.specs.Staging.{moved}
+use Rattle.rep_retain.specs.Staging.{topics_moved}
 
 -- an entry takes a place in the table
 abbrev pub HasPlace : List (List ℕ × Retained) → TopicsStaged → Type 0
@@ -16,6 +16,6 @@ HasPlace es (Table next) = Unit {0}
 -- in its place it makes the table with the operations, which is as long as it was
 pub record IsStagedOf (es : List (List ℕ × Retained)) (ops : List Op)
     (staged : TopicsStaged) : Type 0 where
-  pub moves : moved es staged ≡ with_ops es ops
+  pub moves : topics_moved es staged ≡ with_ops es ops
   pub stands : HasPlace es staged
   pub long : length (with_ops es ops) ≡ length es

@@ -5,7 +5,7 @@ use Rattle.std.specs.declared.cmp.Ordering.{Ordering}
 use Rattle.sn_tables.specs.Tables.{with_entry}
 use Rattle.rep_op.specs.declared.op.Retained.{Retained}
 use Rattle.rep_op.specs.declared.op.Op.{Op}
-use Rattle.rep_op.specs.declared.op.Op.TheVariants.{Session as OfSession, Put as OfPut, Ack, Retain as OfRetain}
+use Rattle.rep_op.specs.declared.op.Op.TheVariants.{Retain as OfRetain}
 use Rattle.rep_op.specs.Orders.{topic_name_cmp, clock_of, clock_cmp}
 use Rattle.rep_op.specs.Sets.{same_topic}
 use Rattle.rep_retain.specs.Tables.{entry_cmp}
@@ -31,10 +31,8 @@ with_kept t kept es = with_entry entry_cmp (t, latest_of (kept_in t es) kept) es
 
 -- the table with an operation; one of a client changes nothing
 abbrev pub with_op : List (List ℕ × Retained) → Op → List (List ℕ × Retained)
-with_op es (OfSession c stamp counter change) = es
-with_op es (OfPut c put) = es
-with_op es (Ack c origin first last) = es
 with_op es (OfRetain t kept) = with_kept t kept es
+with_op es op = es
 
 -- the table with operations, one after the other
 abbrev pub with_ops : List (List ℕ × Retained) → List Op → List (List ℕ × Retained)

@@ -9,7 +9,7 @@ use Rattle.rep_shared.specs.Rows.{own, has_any}
 use Rattle.rep_shared.specs.inner.Rows.{of_client}
 use Rattle.rep_entry.specs.declared.entry.Entry.{Entry}
 use Rattle.rep_entry.specs.declared.fresh.Fresh.{Fresh}
-use Rattle.rep_entry.specs.Entries.{row_of, IsFresh, fresh_row, Base, base_of}
+use Rattle.rep_entry.specs.Entries.{entry_row, IsFresh, fresh_row, Base, base_of}
 use Rattle.rep_state.specs.Tables.{rows_of}
 use Rattle.rep_entry.specs.Applied.{nothing_held}
 
@@ -27,19 +27,19 @@ abbrev pub base_at : List ℕ → List (List ℕ × Entry) → Base
 base_at c es = base_of (held_of c es)
 
 -- what must be kept of the client once the operations of a list are taken
-abbrev pub IsTaken : List ℕ → List (List ℕ × Entry) → List Op → List Op → Type 0
-IsTaken c es D ops = Same ops (keep (own c (rows_of es) ++ of_client c D))
+abbrev pub IsKeptAfter : List ℕ → List (List ℕ × Entry) → List Op → List Op → Type 0
+IsKeptAfter c es D ops = Same ops (keep (own c (rows_of es) ++ of_client c D))
 
 -- what a first operation changes of the client
-abbrev pub IsBegun : List ℕ → Entry → Fresh → Op → Type 0
-IsBegun c entry fresh op =
-    IsFresh c entry fresh × Same (fresh_row c entry fresh) (keep (row_of c entry ++ op ∷ []))
+abbrev pub IsFirstChange : List ℕ → Entry → Fresh → Op → Type 0
+IsFirstChange c entry fresh op =
+    IsFresh c entry fresh × Same (fresh_row c entry fresh) (keep (entry_row c entry ++ op ∷ []))
 
 -- a client's group: the list has operations of the client, and they are taken
 pub record IsGroup (c : List ℕ) (es : List (List ℕ × Entry)) (D : List Op)
     (fresh : Fresh) : Type 0 where
   pub fresh_is : IsFresh c (held_of c es) fresh
-  pub taken : IsTaken c es D (fresh_row c (held_of c es) fresh)
+  pub taken : IsKeptAfter c es D (fresh_row c (held_of c es) fresh)
   pub any : has_any (of_client c D) ≡ true
 
 -- the client has its group; it has none if the list has no operation of it
@@ -58,7 +58,7 @@ fresh_rows es groups = map (λ g. (g.0, fresh_row g.0 (held_of g.0 es) g.1)) gro
 -- the client has its row; it has none if the list has no operation of it
 abbrev pub IsRowOf : List ℕ → List (List ℕ × Entry) → List Op → Option (List Op) → Type 0
 IsRowOf c es D None = of_client c D ≡ []
-IsRowOf c es D (Some ops) = IsTaken c es D ops × (has_any (of_client c D) ≡ true)
+IsRowOf c es D (Some ops) = IsKeptAfter c es D ops × (has_any (of_client c D) ≡ true)
 
 -- a row for each client that the list names
 abbrev pub AreRowsOf : List (List ℕ × Entry) → List Op → List (List ℕ × List Op) → Type 0

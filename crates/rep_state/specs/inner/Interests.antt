@@ -22,9 +22,9 @@ AreMarksOf (Some log) None = ⊥
 AreMarksOf (Some log) (Some marks) = SessionWithin marks log.session
 
 -- the places with other marks for the client, if there are any
-abbrev pub noted : List ℕ → Option ℕ → List Place → List Place
-noted c None places = places
-noted c (Some marks) places = map (marked c marks) places
+abbrev pub marks_noted : List ℕ → Option ℕ → List Place → List Place
+marks_noted c None places = places
+marks_noted c (Some marks) places = map (marked c marks) places
 
 -- none of these places has the mark
 abbrev pub NoneMarked : ℕ → List Place → Type 0

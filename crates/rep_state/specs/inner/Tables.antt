@@ -7,12 +7,12 @@ use Rattle.rep_op.specs.declared.op.Op.{Op}
 use Rattle.rep_op.specs.Orders.{client_cmp}
 use Rattle.rep_model.specs.declared.fault.TheConstants.{MOST_PENDING, MOST_PARKED, MOST_EXCEPTIONS}
 use Rattle.rep_model.specs.declared.fault.Limit.{Limit}
-use Rattle.rep_shared.specs.Rows.{flat, own, moved, CanGoBack}
+use Rattle.rep_shared.specs.Rows.{flat, own, rows_with, CanGoBack}
 use Rattle.rep_shared.specs.inner.Tables.{passed_of}
 use Rattle.rep_entry.specs.declared.entry.Entry.{Entry}
 use Rattle.rep_state.specs.declared.places.Place.{Place}
 use Rattle.rep_entry.specs.Entries.{IsEntry}
-use Rattle.rep_state.specs.Tables.{rows_of, IsKept, IsTable}
+use Rattle.rep_state.specs.Tables.{rows_of, IsKept, IsEntryTable}
 
 -- places are in the order of their names
 abbrev pub place_cmp : Place → Place → Ordering
@@ -30,17 +30,17 @@ AreWorkedOut es = AllByRecursion (λ e. IsEntry e.0 e.1) es
 -- the table with more places, and nothing in them
 pub record IsRoomier (old new : List (List ℕ × Entry)) : Type 0 where
   pub same : flat (rows_of new) ≡ flat (rows_of old)
-  pub table : (count : ℕ) → IsTable old count → IsTable new count
+  pub table : (count : ℕ) → IsEntryTable old count → IsEntryTable new count
   pub found : (c : List ℕ) → IsSome (find client_cmp c (rows_of old))
       → IsSome (find client_cmp c (rows_of new))
-  pub back : (count : ℕ) → IsTable old count → (aside : List (List ℕ × List Op))
+  pub back : (count : ℕ) → IsEntryTable old count → (aside : List (List ℕ × List Op))
       → CanGoBack (rows_of old) aside → CanGoBack (rows_of new) aside
-      × (flat (moved (rows_of new) aside) ≡ flat (moved (rows_of old) aside))
+      × (flat (rows_with (rows_of new) aside) ≡ flat (rows_with (rows_of old) aside))
 
 -- more of the rows lies aside, and is put back as before
 pub record IsSaving (rows old new : List (List ℕ × List Op)) : Type 0 where
   pub can : CanGoBack rows old → CanGoBack rows new
-  pub same : moved rows new ≡ moved rows old
+  pub same : rows_with rows new ≡ rows_with rows old
   pub found : (c : List ℕ) → IsSome (find client_cmp c old) → IsSome (find client_cmp c new)
 
 -- each client that has one of the entries aside has a place for it

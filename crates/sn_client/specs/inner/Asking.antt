@@ -7,19 +7,20 @@ use Rattle.sn_frame.specs.declared.flags.TopicIdType.{TopicIdType}
 use Rattle.sn_frame.specs.FlagBits.{kind_bits}
 
 -- bits 6 and 5
-abbrev pub qos_bits : Qos → ℕ
-qos_bits levels.Zero = 0
-qos_bits levels.One = 32
-qos_bits levels.Two = 64
-qos_bits levels.MinusOne = 96
+abbrev pub qos_flag_bits : Qos → ℕ
+qos_flag_bits levels.Zero = 0
+qos_flag_bits levels.One = 32
+qos_flag_bits levels.Two = 64
+qos_flag_bits levels.MinusOne = 96
 
 -- the Retain bit of the flags, bit 4
-abbrev pub retain_bit : Bool → ℕ
-retain_bit retain = if retain then 16 else 0
+abbrev pub retain_flag_bit : Bool → ℕ
+retain_flag_bit retain = if retain then 16 else 0
 
 -- the flags of a PUBLISH, SUBSCRIBE or WILLTOPIC
 abbrev pub flags_of : Qos → Bool → TopicIdType → Flags
-flags_of qos retain kind = record { bits = qos_bits qos + retain_bit retain + kind_bits kind }
+flags_of qos retain kind =
+    record { bits = qos_flag_bits qos + retain_flag_bit retain + kind_bits kind }
 
 -- the flags of a CONNECT: whether it is for a clean session, and whether there is a will
 abbrev pub connect_flags : Bool → Bool → Flags

@@ -48,10 +48,10 @@ planned_of (Some p) topic talk = publishing_of p topic
 -- How an exchange has ended if one more answer comes. Its frame may have been sent again, so what
 -- was accepted stays accepted. If nothing accepts, and it was only taken for accepted, a refusal
 -- counts.
-abbrev pub ended : Awaited → Option Outcome → Outcome → Outcome
-ended (waits.Refusal id) had outcome = outcome
-ended awaited (Some outcomes.Accepted) outcome = outcomes.Accepted
-ended awaited had outcome = outcome
+abbrev pub outcome_after : Awaited → Option Outcome → Outcome → Outcome
+outcome_after (waits.Refusal id) had outcome = outcome
+outcome_after awaited (Some outcomes.Accepted) outcome = outcomes.Accepted
+outcome_after awaited had outcome = outcome
 
 -- the exchange after a turn
 abbrev pub turned : Turn → Talk → Talk
@@ -60,7 +60,7 @@ turned (turns.Publish topic) talk = planned_of talk.planned topic talk
 turned (turns.Release id) talk =
     record talk { awaited = waits.Completion id; pending = Some (frames.PubRel id) }
 turned (turns.End outcome) talk =
-    record talk { outcome = Some (ended talk.awaited talk.outcome outcome) }
+    record talk { outcome = Some (outcome_after talk.awaited talk.outcome outcome) }
 
 -- how a run ends if nothing has ended the exchange
 abbrev pub outcome_of_silence : Awaited → Bool → Outcome

@@ -97,12 +97,10 @@ id_awaited awaited = 0
 
 -- A frame that moves the exchange on, or ends it well, has the message id of what is awaited.
 abbrev pub OnProgress : Turn → Type 0 → Type 0
-OnProgress turns.Stay P = Unit {0}
 OnProgress (turns.Publish topic) P = P
 OnProgress (turns.Release id) P = P
 OnProgress (turns.End outcomes.Accepted) P = P
-OnProgress (turns.End outcomes.Refused) P = Unit {0}
-OnProgress (turns.End outcomes.Unanswered) P = Unit {0}
+OnProgress turn P = Unit {0}
 
 -- A repeated frame says that it was sent before, section 5.3.4.
 abbrev pub repeated_bits : ℕ → ℕ
@@ -129,7 +127,7 @@ outcome_at levels.Zero = Some outcomes.Accepted
 outcome_at levels.MinusOne = Some outcomes.Accepted
 
 -- the status of the program
-abbrev pub status_of : Outcome → ℕ
-status_of outcomes.Accepted = 0
-status_of outcomes.Refused = 1
-status_of outcomes.Unanswered = 2
+abbrev pub outcome_status : Outcome → ℕ
+outcome_status outcomes.Accepted = 0
+outcome_status outcomes.Refused = 1
+outcome_status outcomes.Unanswered = 2

@@ -16,11 +16,11 @@ use Rattle.sn_frame.specs.FlagBits.{kind_of}
 
 -- what a reader may answer, if this is what there is to read; only if there is something can it
 -- need memory
-abbrev pub Gives : {A : Type 0} → Option A → Result A FrameFault → Type 0
-Gives there (Ok x) = there ≡ Some x
-Gives there (Err faults.Memory) = there ≢ None
-Gives there (Err faults.Body) = there ≡ None
-Gives there (Err fault) = ⊥
+abbrev pub ReadsFrame : {A : Type 0} → Option A → Result A FrameFault → Type 0
+ReadsFrame there (Ok x) = there ≡ Some x
+ReadsFrame there (Err faults.Memory) = there ≢ None
+ReadsFrame there (Err faults.Body) = there ≡ None
+ReadsFrame there (Err fault) = ⊥
 
 -- the answer is not that memory ran out
 abbrev pub WantsNone : {A : Type 0} → Result A FrameFault → Type 0

@@ -1,6 +1,6 @@
 //! Bodies that one message alone has.
 
-ghost use Rattle.sn_frame.specs.inner.Reading.{Gives, WantsNone, read_advertise, read_gw_info, read_connect, read_register, read_publish, read_sub_ack, read_ping_req, read_disconnect};
+ghost use Rattle.sn_frame.specs.inner.Reading.{ReadsFrame, WantsNone, read_advertise, read_gw_info, read_connect, read_register, read_publish, read_sub_ack, read_ping_req, read_disconnect};
 
 use crate::decoder::parts::number;
 use crate::fault::FrameFault;
@@ -11,7 +11,7 @@ use std::alloc::Global;
 
 /// ADVERTISE.
 pub(super) fn advertise(body: &[u8]) -> Result<Frame, FrameFault>
-    ensures gives { Gives (read_advertise body.now) result }
+    ensures gives { ReadsFrame (read_advertise body.now) result }
     ensures light { WantsNone result }
 {
     match body {
@@ -25,7 +25,7 @@ pub(super) fn advertise(body: &[u8]) -> Result<Frame, FrameFault>
 
 /// GWINFO.
 pub(super) fn gw_info(alloc: Global, body: &[u8]) -> Result<Frame, FrameFault>
-    ensures { Gives (read_gw_info body.now) result }
+    ensures { ReadsFrame (read_gw_info body.now) result }
 {
     match body {
         [gateway, address @ ..] => {
@@ -40,7 +40,7 @@ pub(super) fn gw_info(alloc: Global, body: &[u8]) -> Result<Frame, FrameFault>
 
 /// CONNECT.
 pub(super) fn connect(alloc: Global, body: &[u8]) -> Result<Frame, FrameFault>
-    ensures { Gives (read_connect body.now) result }
+    ensures { ReadsFrame (read_connect body.now) result }
 {
     match body {
         [bits, protocol, high, low, client @ ..] if (1..=MAX_CLIENT_ID).contains(&client.len()) =>
@@ -56,7 +56,7 @@ pub(super) fn connect(alloc: Global, body: &[u8]) -> Result<Frame, FrameFault>
 
 /// REGISTER.
 pub(super) fn register(alloc: Global, body: &[u8]) -> Result<Frame, FrameFault>
-    ensures { Gives (read_register body.now) result }
+    ensures { ReadsFrame (read_register body.now) result }
 {
     match body {
         [t1, t0, m1, m0, name @ ..] => Ok(Frame::Register {
@@ -70,7 +70,7 @@ pub(super) fn register(alloc: Global, body: &[u8]) -> Result<Frame, FrameFault>
 
 /// PUBLISH.
 pub(super) fn publish(alloc: Global, body: &[u8]) -> Result<Frame, FrameFault>
-    ensures { Gives (read_publish body.now) result }
+    ensures { ReadsFrame (read_publish body.now) result }
 {
     match body {
         [bits, t1, t0, m1, m0, message @ ..] => Ok(Frame::Publish {
@@ -85,7 +85,7 @@ pub(super) fn publish(alloc: Global, body: &[u8]) -> Result<Frame, FrameFault>
 
 /// SUBACK.
 pub(super) fn sub_ack(body: &[u8]) -> Result<Frame, FrameFault>
-    ensures gives { Gives (read_sub_ack body.now) result }
+    ensures gives { ReadsFrame (read_sub_ack body.now) result }
     ensures light { WantsNone result }
 {
     match body {
@@ -101,7 +101,7 @@ pub(super) fn sub_ack(body: &[u8]) -> Result<Frame, FrameFault>
 
 /// PINGREQ.
 pub(super) fn ping_req(alloc: Global, body: &[u8]) -> Result<Frame, FrameFault>
-    ensures { Gives (read_ping_req body.now) result }
+    ensures { ReadsFrame (read_ping_req body.now) result }
 {
     if body.len() > MAX_CLIENT_ID {
         return Err(FrameFault::Body);
@@ -113,7 +113,7 @@ pub(super) fn ping_req(alloc: Global, body: &[u8]) -> Result<Frame, FrameFault>
 
 /// DISCONNECT.
 pub(super) fn disconnect(body: &[u8]) -> Result<Frame, FrameFault>
-    ensures gives { Gives (read_disconnect body.now) result }
+    ensures gives { ReadsFrame (read_disconnect body.now) result }
     ensures light { WantsNone result }
 {
     match body {

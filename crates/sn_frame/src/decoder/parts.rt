@@ -1,7 +1,7 @@
 //! Bodies, and parts of bodies, that several messages share.
 
 ghost use Rattle.std.specs.Prelude.{◌≡◌, IfOk, IfErr, true};
-ghost use Rattle.sn_frame.specs.inner.Reading.{Gives, WantsNone, has_octets, read_bare, read_octet, read_number, read_ids, read_filter, read_will};
+ghost use Rattle.sn_frame.specs.inner.Reading.{ReadsFrame, WantsNone, has_octets, read_bare, read_octet, read_number, read_ids, read_filter, read_will};
 ghost use Rattle.sn_frame.specs.inner.Reading as spec;
 
 use crate::fault::FrameFault;
@@ -20,7 +20,7 @@ pub(super) fn number(high: u8, low: u8) -> u16
 
 /// This frame, which has no body.
 pub(super) fn bare(body: &[u8], frame: Frame) -> Result<Frame, FrameFault>
-    ensures gives { Gives (read_bare body.now frame) result }
+    ensures gives { ReadsFrame (read_bare body.now frame) result }
     ensures light { WantsNone result }
 {
     match body {
@@ -31,7 +31,7 @@ pub(super) fn bare(body: &[u8], frame: Frame) -> Result<Frame, FrameFault>
 
 /// A body of one octet.
 pub(super) fn one_octet(body: &[u8]) -> Result<u8, FrameFault>
-    ensures gives { Gives (read_octet body.now) result }
+    ensures gives { ReadsFrame (read_octet body.now) result }
     ensures light { WantsNone result }
 {
     match body {
@@ -42,7 +42,7 @@ pub(super) fn one_octet(body: &[u8]) -> Result<u8, FrameFault>
 
 /// A body of one number.
 pub(super) fn one_number(body: &[u8]) -> Result<u16, FrameFault>
-    ensures gives { Gives (read_number body.now) result }
+    ensures gives { ReadsFrame (read_number body.now) result }
     ensures light { WantsNone result }
 {
     match body {
@@ -53,7 +53,7 @@ pub(super) fn one_number(body: &[u8]) -> Result<u16, FrameFault>
 
 /// A topic id, a message id and a return code.
 pub(super) fn ids_and_code(body: &[u8]) -> Result<(u16, u16, u8), FrameFault>
-    ensures gives { Gives (read_ids body.now) result }
+    ensures gives { ReadsFrame (read_ids body.now) result }
     ensures light { WantsNone result }
 {
     match body {
@@ -64,7 +64,7 @@ pub(super) fn ids_and_code(body: &[u8]) -> Result<(u16, u16, u8), FrameFault>
 
 /// Flags, a message id and a topic that has the size that the flags ask for.
 pub(super) fn subscription(alloc: Global, body: &[u8]) -> Result<(Flags, u16, Octets), FrameFault>
-    ensures { Gives (read_filter body.now) result }
+    ensures { ReadsFrame (read_filter body.now) result }
 {
     match body {
         [bits, high, low, topic @ ..] => {

@@ -9,10 +9,10 @@ abbrev pub AllAbove : {E : Type 0} → (E → Ordering) → List E → Type 0
 AllAbove sought entries = AllByRecursion (λ a. sought a ≡ Greater) entries
 
 -- what is sought is at this place
-abbrev pub IsAt : {E : Type 0} → (E → Ordering) → List E → ℕ → Type 0
-IsAt sought [] i = ⊥
-IsAt sought (a ∷ rest) zero = (sought a ≡ Equal) × AllAbove sought rest
-IsAt sought (a ∷ rest) (suc i) = (sought a ≡ Less) × IsAt sought rest i
+abbrev pub IsFoundAt : {E : Type 0} → (E → Ordering) → List E → ℕ → Type 0
+IsFoundAt sought [] i = ⊥
+IsFoundAt sought (a ∷ rest) zero = (sought a ≡ Equal) × AllAbove sought rest
+IsFoundAt sought (a ∷ rest) (suc i) = (sought a ≡ Less) × IsFoundAt sought rest i
 
 -- what is sought is not there, and would go to this place
 abbrev pub IsGap : {E : Type 0} → (E → Ordering) → List E → ℕ → Type 0
@@ -23,5 +23,5 @@ IsGap sought (a ∷ rest) (suc i) = (sought a ≡ Less) × IsGap sought rest i
 -- what a search for it answers: the place that it has, or else the place to which it would go
 abbrev pub IsPlace : {E : Type 0} → (E → Ordering) → List E → Result ℕ ℕ → Type 0
 IsPlace sought entries result =
-    MatchResult result (λ at. (at < length entries) × IsAt sought entries at)
+    MatchResult result (λ at. (at < length entries) × IsFoundAt sought entries at)
     (λ at. (at ≤ length entries) × IsGap sought entries at)

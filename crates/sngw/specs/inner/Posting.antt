@@ -8,19 +8,18 @@ group_of to = (to.host % 65536 * 31 + to.port) % 4096
 
 -- whether a datagram is a DISCONNECT without a duration: its length, 2, and its kind, 24
 abbrev pub is_disconnect : List ℕ → Bool
-is_disconnect [] = false
-is_disconnect (a ∷ []) = false
 is_disconnect (a ∷ (b ∷ [])) = (a == 2) && (b == 24)
-is_disconnect (a ∷ (b ∷ (c ∷ rest))) = false
+is_disconnect octets = false
 
 -- the kind of a message: its second octet, or its fourth after a length of three octets
-abbrev pub kind_of : List ℕ → ℕ
-kind_of [] = 0
-kind_of (a ∷ []) = 0
-kind_of (a ∷ (b ∷ [])) = b
-kind_of (a ∷ (b ∷ (c ∷ []))) = b
-kind_of (a ∷ (b ∷ (c ∷ (d ∷ rest)))) = if a == 1 then d else b
+abbrev pub octet_of_kind : List ℕ → ℕ
+octet_of_kind [] = 0
+octet_of_kind (a ∷ []) = 0
+octet_of_kind (a ∷ (b ∷ [])) = b
+octet_of_kind (a ∷ (b ∷ (c ∷ []))) = b
+octet_of_kind (a ∷ (b ∷ (c ∷ (d ∷ rest)))) = if a == 1 then d else b
 
 -- whether a datagram is one of those that are sent again: REGISTER, PUBLISH or PUBREL
 abbrev pub is_try : List ℕ → Bool
-is_try bytes = (kind_of bytes == 10) || (kind_of bytes == 12) || (kind_of bytes == 16)
+is_try bytes =
+    (octet_of_kind bytes == 10) || (octet_of_kind bytes == 12) || (octet_of_kind bytes == 16)

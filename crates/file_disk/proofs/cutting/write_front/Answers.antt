@@ -1,5 +1,5 @@
 use Rattle.std.proofs.Common.{◌≡◌, ℕ, List, arith, subst, ap, ◌∙◌, take, drop}
-use Rattle.file_disk.specs.Files.{FileState, grown}
+use Rattle.file_disk.specs.Files.{FileState, file_grown}
 use Rattle.file_disk.proofs.Growing.{grown_more}
 use Rattle.file_disk.proofs.cutting.write_front.Goals as goal
 
@@ -13,5 +13,5 @@ loop-written-preserved g c =
     let mid = S c.loop-written.file in
     let new = S c.write_once-more.new.file in (
       omega (arith, c.write_once-more.ensures.within, c.split_at.ensures.back_len, c.loop-written.invariant.0),
-      (λ h. subst (λ (t : List ℕ). new ≡ grown mid (take m t)) c.split_at.ensures.back (c.write_once-more.ensures.grown h) ∙ (ap (λ (s : FileState). grown s (take m (drop n bytes))) (c.loop-written.invariant.1 h) ∙ grown_more old n m bytes)),
+      (λ h. subst (λ (t : List ℕ). new ≡ file_grown mid (take m t)) c.split_at.ensures.back (c.write_once-more.ensures.grown h) ∙ (ap (λ (s : FileState). file_grown s (take m (drop n bytes))) (c.loop-written.invariant.1 h) ∙ grown_more old n m bytes)),
     )

@@ -1,6 +1,6 @@
 use Rattle.std.proofs.Common.{sym, subst, inl, inr}
 use Rattle.gw_node.specs.Parts.{state_of}
-use Rattle.gw_main.specs.Tending.{EndsAs}
+use Rattle.gw_main.specs.Tending.{TendingEndsAs}
 use Rattle.gw_main.specs.declared.tending.Tended.{Tended}
 use Rattle.gw_main.proofs.Behind.{one_call, opened_then}
 use Rattle.gw_main.proofs.tending.tend.Goals as goal
@@ -10,10 +10,10 @@ returns-in_err-open_anew-clause-taken g c = λ honest.
     one_call (state_of g.R.Replica.kept c.args.node.now) (state_of g.R.Replica.kept c.args.node.now) (state_of g.R.Replica.kept c.open_anew.new.node) c.in_err-open_anew.ensures.nothing
 
 pub returns-in-Ok-Kept-clause-tended : goal.returns-in-Ok-Kept-clause-tended
-returns-in-Ok-Kept-clause-tended g c = inl (sym c.if-not-is_halted.ensures, (state_of g.R.Replica.kept c.open_anew.new.node, c.in_ok-open_anew.ensures.ok, subst (λ (tended : Tended). EndsAs (state_of g.R.Replica.kept c.open_anew.new.node) tended (state_of g.R.Replica.kept c.compact-2.new.node)) c.in-Ok-Kept.field-0-is c.in-Ok-Kept.ensures.ends))
+returns-in-Ok-Kept-clause-tended g c = inl (sym c.if-not-is_halted.ensures, (state_of g.R.Replica.kept c.open_anew.new.node, c.in_ok-open_anew.ensures.ok, subst (λ (tended : Tended). TendingEndsAs (state_of g.R.Replica.kept c.open_anew.new.node) tended (state_of g.R.Replica.kept c.compact-2.new.node)) c.in-Ok-Kept.field-0-is c.in-Ok-Kept.ensures.ends))
 
 pub returns-in-Ok-Starved-clause-tended : goal.returns-in-Ok-Starved-clause-tended
-returns-in-Ok-Starved-clause-tended g c = inr (sym c.if-not-is_halted.ensures, (state_of g.R.Replica.kept c.open_anew.new.node, c.in_ok-open_anew.ensures.ok, subst (λ (tended : Tended). EndsAs (state_of g.R.Replica.kept c.open_anew.new.node) tended (state_of g.R.Replica.kept c.compact-2.new.node)) c.in-Ok-Starved.field-0-is c.in-Ok-Starved.ensures.ends))
+returns-in-Ok-Starved-clause-tended g c = inr (sym c.if-not-is_halted.ensures, (state_of g.R.Replica.kept c.open_anew.new.node, c.in_ok-open_anew.ensures.ok, subst (λ (tended : Tended). TendingEndsAs (state_of g.R.Replica.kept c.open_anew.new.node) tended (state_of g.R.Replica.kept c.compact-2.new.node)) c.in-Ok-Starved.field-0-is c.in-Ok-Starved.ensures.ends))
 
 pub returns-in-Ok-Starved-clause-taken : goal.returns-in-Ok-Starved-clause-taken
 returns-in-Ok-Starved-clause-taken g c = λ honest.
@@ -26,7 +26,7 @@ returns-in-Ok-Kept-clause-taken g c = λ honest.
     honest c.in_ok-open_anew.ensures.again (c.in-Ok-Kept.ensures.taken honest)
 
 pub returns-in-Ok-Unwritten-clause-tended : goal.returns-in-Ok-Unwritten-clause-tended
-returns-in-Ok-Unwritten-clause-tended g c = inr (sym c.if-not-is_halted.ensures, (state_of g.R.Replica.kept c.open_anew.new.node, c.in_ok-open_anew.ensures.ok, subst (λ (tended : Tended). EndsAs (state_of g.R.Replica.kept c.open_anew.new.node) tended (state_of g.R.Replica.kept c.compact-2.new.node)) c.in-Ok-Unwritten.field-0-is c.in-Ok-Unwritten.ensures.ends))
+returns-in-Ok-Unwritten-clause-tended g c = inr (sym c.if-not-is_halted.ensures, (state_of g.R.Replica.kept c.open_anew.new.node, c.in_ok-open_anew.ensures.ok, subst (λ (tended : Tended). TendingEndsAs (state_of g.R.Replica.kept c.open_anew.new.node) tended (state_of g.R.Replica.kept c.compact-2.new.node)) c.in-Ok-Unwritten.field-0-is c.in-Ok-Unwritten.ensures.ends))
 
 pub returns-in-Ok-Unwritten-clause-taken : goal.returns-in-Ok-Unwritten-clause-taken
 returns-in-Ok-Unwritten-clause-taken g c = λ honest.

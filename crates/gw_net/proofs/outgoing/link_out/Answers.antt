@@ -1,7 +1,7 @@
 use Rattle.std.proofs.Common.{◌≡◌, ℕ, List, ◌++◌, subst, ◌∙◌, length}
 use Rattle.std.specs.Io.KnownBytes.{Appends}
 use Rattle.std.proofs.lemmas.Result.{IfErr-weaker}
-use Rattle.gw_net.specs.Messages.{spelling}
+use Rattle.gw_net.specs.Messages.{message_spelling}
 use Rattle.gw_net.specs.Writing.{IsCutShort}
 use Rattle.gw_net.specs.inner.Writing.{IsCutBehind}
 use Rattle.gw_net.proofs.Sending.{headed, cut_first, cut_second}
@@ -14,7 +14,7 @@ returns-in-Err-clause-fault g c =
     let new = K c.write_behind.new.writer in
     let body = c.in_ok-body.body.items in
     let head = c.in_ok-head.head.items in
-    let whole : head ++ body ≡ spelling c.args.message.now = headed c.args.message.now head body c.len.result c.in_ok-body.ensures (c.len.ensures ∙ c.in_ok-body.body.ok.0) c.in_ok-head.ensures in
+    let whole : head ++ body ≡ message_spelling c.args.message.now = headed c.args.message.now head body c.len.result c.in_ok-body.ensures (c.len.ensures ∙ c.in_ok-body.body.ok.0) c.in_ok-head.ensures in
     let cut = subst (λ (t : List ℕ). IsCutBehind 0 old new t c.in-Err.fault) c.as_slice.ensures.value c.in-Err.ensures.fault in
     subst (λ (t : List ℕ). IsCutShort old new t c.in-Err.fault) whole (cut_first old new head body c.in-Err.fault cut)
 
@@ -26,7 +26,7 @@ returns-clause-fault g c =
     let new = K c.write_behind-in-Ok.new.writer in
     let body = c.in_ok-body.body.items in
     let head = c.in_ok-head.head.items in
-    let whole : head ++ body ≡ spelling c.args.message.now = headed c.args.message.now head body c.len.result c.in_ok-body.ensures (c.len.ensures ∙ c.in_ok-body.body.ok.0) c.in_ok-head.ensures in
+    let whole : head ++ body ≡ message_spelling c.args.message.now = headed c.args.message.now head body c.len.result c.in_ok-body.ensures (c.len.ensures ∙ c.in_ok-body.body.ok.0) c.in_ok-head.ensures in
     let first = subst (λ (t : List ℕ). Appends old mid t) c.as_slice.ensures.value c.in-Ok.ensures.ok in
     let size : c.len-in-Ok.result ≡ length head = c.len-in-Ok.ensures ∙ c.in_ok-head.head.ok.0 in
     IfErr-weaker c.write_behind-in-Ok.result _ _

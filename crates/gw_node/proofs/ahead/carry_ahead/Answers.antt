@@ -1,7 +1,7 @@
 use Rattle.std.proofs.Common.{◌≡◌, ◌++◌, Option, Some, List, ◌⊎◌, refl, sym, ap, ◌∙◌, subst, append-nil}
 use Rattle.std.specs.Option.{option_to_list}
 use Rattle.rep_op.specs.declared.op.Op.{Op}
-use Rattle.rep_ops.specs.Making.{AreApart, IsDeltaOf}
+use Rattle.rep_ops.specs.Making.{HaveOwnNames, IsDeltaOf}
 use Rattle.rep_model.specs.Keep.{IsKeptOf}
 use Rattle.sn_local.specs.Locals.{after_all}
 use Rattle.gw_answer.specs.declared.out.Out.{Out}
@@ -51,13 +51,13 @@ returns-clause-call g c =
     let delta : List Op = c.in-Ok.ready.1 in
     let answer_is : c.in-Ok-answer_made.answer ≡ record (only_sends c.args.plan.sends) { made = Some delta } = c.in-Ok-answer_made.ensures.answer ∙ c.of_plan-out.ensures in
     let made_is : c.in-Ok-answer_made.answer.made ≡ Some delta = ap (λ (out : Out). out.made) answer_is in
-    let new : State g.D.Disk = record { config = c.args.node.now.config; kept = g.R.Replica.kept c.commit.new.self; local = c.note_taken-node.new.dialogs.local; journal = c.args.node.now.journal; records = c.args.node.now.records } in
+    let new : State g.D.Disk = record { config = c.args.node.now.config; kept = g.R.Replica.kept c.commit.new.self; local = c.apply_local_after_delta-node.new.dialogs.local; journal = c.args.node.now.journal; records = c.args.node.now.records } in
     record {
       config = refl;
       records = refl;
       journal = record { gateway = refl; slot = refl; generation = refl; halted = refl; disk = refl };
-      local = c.note_taken-node.ensures.done ∙ ap (λ l. after_all l c.args.plan.local) c.make_ready.ensures.local;
-      apart = subst AreApart c.into_vec.ensures c.in-Ok.ensures.apart;
+      local = c.apply_local_after_delta-node.ensures.done ∙ ap (λ l. after_all l c.args.plan.local) c.make_ready.ensures.local;
+      apart = subst HaveOwnNames c.into_vec.ensures c.in-Ok.ensures.apart;
       made = subst (λ (made : Option (List Op)). MakesAhead c.args.plan.ops made old new) (sym made_is)
           (made_ahead c.args.plan.ops delta old new c.requires.some
           (subst (λ (ops : List Op). IsDeltaOf ops delta) c.into_vec.ensures c.in-Ok.ensures.delta)

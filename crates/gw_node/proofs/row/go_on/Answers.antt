@@ -7,11 +7,11 @@ use Rattle.gw_node.proofs.row.go_on.Goals as goal
 
 pub loop-index-init : goal.loop-index-init
 loop-index-init g c =
-    (gone_none (state_of g.R.Replica.kept c.args.node.now) c.args.replies.now.items c.args.records.now, c.requires.can, refl, (let room = c.requires.room in omega (arith, room)))
+    (gone_none (state_of g.R.Replica.kept c.args.node.now) c.args.replies.now.items c.args.unwritten.now.records, c.requires.can, refl, (let room = c.requires.room in omega (arith, room)))
 
 pub one_more-requires-clause-runs : goal.one_more-requires-clause-runs
 one_more-requires-clause-runs g c =
-    gone_runs (state_of g.R.Replica.kept c.args.node.now) (state_of g.R.Replica.kept c.loop-index.node) (take c.loop-index.index (map arc_value c.args.rest.now)) c.args.replies.now.items c.loop-index.replies.items c.args.records.now c.loop-index.records
+    gone_runs (state_of g.R.Replica.kept c.args.node.now) (state_of g.R.Replica.kept c.loop-index.node) (take c.loop-index.index (map arc_value c.args.rest.now)) c.args.replies.now.items c.loop-index.replies.items c.args.unwritten.now.records c.loop-index.unwritten.records
     c.requires.runs c.loop-index.invariant.0
 
 pub one_more-requires-clause-can : goal.one_more-requires-clause-can
@@ -28,8 +28,8 @@ loop-index-preserved g c =
     let steps = map arc_value c.args.rest.now in
     let step = c.index-rest-index.result in
     let calls = one_more_of arc_value c.args.rest.now c.loop-index.index step c.loop-index-test.true c.index-rest-index.is ∙ ap (λ (s : Step). take c.loop-index.index steps ++ s ∷ []) (sym c.deref.ensures) in (
-      subst (λ (cs : List Step). GoneOn old cs c.args.replies.now.items c.args.records.now c.one_more.new.replies.items c.one_more.new.records new) (sym calls)
-          (gone_more old mid new (take c.loop-index.index steps) c.deref.result.now c.args.replies.now.items c.loop-index.replies.items c.one_more.new.replies.items c.args.records.now c.loop-index.records c.one_more.new.records
+      subst (λ (cs : List Step). GoneOn old cs c.args.replies.now.items c.args.unwritten.now.records c.one_more.new.replies.items c.one_more.new.unwritten.records new) (sym calls)
+          (gone_more old mid new (take c.loop-index.index steps) c.deref.result.now c.args.replies.now.items c.loop-index.replies.items c.one_more.new.replies.items c.args.unwritten.now.records c.loop-index.unwritten.records c.one_more.new.unwritten.records
           c.loop-index.invariant.0 c.if-not-one_more.ensures.call),
       c.one_more.ensures.can,
       c.one_more.ensures.back ∙ c.loop-index.invariant.2,
@@ -39,14 +39,14 @@ loop-index-preserved g c =
 pub returns-then-not-one_more-clause-calls : goal.returns-then-not-one_more-clause-calls
 returns-then-not-one_more-clause-calls g c =
     gone_stops (state_of g.R.Replica.kept c.args.node.now) (state_of g.R.Replica.kept c.loop-index.node) (state_of g.R.Replica.kept c.one_more.new.node) c.loop-index.index (map arc_value c.args.rest.now) c.deref.result.now
-    c.args.replies.now.items c.loop-index.replies.items c.one_more.new.replies.items c.args.records.now c.loop-index.records c.one_more.new.records c.loop-index.invariant.0 c.if-not-one_more.ensures.call
+    c.args.replies.now.items c.loop-index.replies.items c.one_more.new.replies.items c.args.unwritten.now.records c.loop-index.unwritten.records c.one_more.new.unwritten.records c.loop-index.invariant.0 c.if-not-one_more.ensures.call
 
 pub returns-then-not-one_more-clause-back : goal.returns-then-not-one_more-clause-back
 returns-then-not-one_more-clause-back g c = c.one_more.ensures.back ∙ c.loop-index.invariant.2
 
 pub returns-clause-calls : goal.returns-clause-calls
 returns-clause-calls g c =
-    gone_all (state_of g.R.Replica.kept c.args.node.now) (state_of g.R.Replica.kept c.loop-index.node) c.loop-index.index (map arc_value c.args.rest.now) c.args.replies.now.items c.loop-index.replies.items c.args.records.now c.loop-index.records
+    gone_all (state_of g.R.Replica.kept c.args.node.now) (state_of g.R.Replica.kept c.loop-index.node) c.loop-index.index (map arc_value c.args.rest.now) c.args.replies.now.items c.loop-index.replies.items c.args.unwritten.now.records c.loop-index.unwritten.records
     c.loop-index.invariant.0
 
 pub returns-clause-can : goal.returns-clause-can

@@ -10,4 +10,4 @@ pub returns-in-Some-clause-call : goal.returns-in-Some-clause-call
 returns-in-Some-clause-call g c = (c.in-Some.reply, c.in-Some.ensures.call.0, c.in-Some.ensures.call.1, c.push_reserved.ensures.items, c.in-Some.ensures.records)
 
 pub returns-in-None-clause-call : goal.returns-in-None-clause-call
-returns-in-None-clause-call g c = (c.in-None.ensures.call, refl, c.in-None.ensures.records ∙ append-nil c.args.records.now)
+returns-in-None-clause-call g c = (c.in-None.ensures.call, refl, c.in-None.ensures.records ∙ append-nil c.args.unwritten.now.records)

@@ -13,12 +13,12 @@ use Rattle.gw_node.proofs.row.taken_row.Goals as goal
 
 pub returns-then-is_empty : goal.returns-then-is_empty
 returns-then-is_empty g c =
-    by_itself (state_of g.R.Replica.kept c.args.node.now) (state_of g.R.Replica.kept c.take_in.new.node) (steps.Take c.args.delta.now) (map arc_value c.args.rest.now) c.alone.result.items c.take_in.result c.alone.ensures c.take_in.ensures
+    by_itself (state_of g.R.Replica.kept c.args.node.now) (state_of g.R.Replica.kept c.write_and_take.new.node) (steps.Take c.args.delta.now) (map arc_value c.args.rest.now) c.alone.result.items c.write_and_take.result c.alone.ensures c.write_and_take.ensures
 
 pub returns-in_default : goal.returns-in_default
 returns-in_default g c =
-    by_itself (state_of g.R.Replica.kept c.args.node.now) (state_of g.R.Replica.kept c.take_in-in_default.new.node) (steps.Take c.args.delta.now) (map arc_value c.args.rest.now) c.alone-in_default.result.items c.take_in-in_default.result
-    c.alone-in_default.ensures c.take_in-in_default.ensures
+    by_itself (state_of g.R.Replica.kept c.args.node.now) (state_of g.R.Replica.kept c.write_and_take-in_default.new.node) (steps.Take c.args.delta.now) (map arc_value c.args.rest.now) c.alone-in_default.result.items c.write_and_take-in_default.result
+    c.alone-in_default.ensures c.write_and_take-in_default.ensures
 
 pub returns-in_default-new : goal.returns-in_default-new
 returns-in_default-new g c =

@@ -17,18 +17,18 @@ gather-gathered-requires-clause-done g c =
     let size = ap length c.as_mut_slice.ensures.value in
     let here = with_items_is c.seated-slots.result c.read_and_work-reading.new.slots (omega (arith, len, size, c.as_mut_slice.ensures.len)) in
     let tied = c.requires.channel in
-    subst (All (IsDone (sends_on c.args.sender.now))) (sym here)
-    (all_done (sends_on c.args.sender.now) c.as_mut_slice.result.now c.read_and_work-reading.new.slots (omega (arith, len)) (rw tied at c.read_and_work-reading.ensures.slots))
+    subst (All (IsDone (sends_on c.args.channel.sender))) (sym here)
+    (all_done (sends_on c.args.channel.sender) c.as_mut_slice.result.now c.read_and_work-reading.new.slots (omega (arith, len)) (rw tied at c.read_and_work-reading.ensures.slots))
 
-pub returns-in-None-clause-datagrams : goal.returns-in-None-clause-datagrams
-returns-in-None-clause-datagrams g c =
+pub returns-clause-datagrams : goal.returns-clause-datagrams
+returns-clause-datagrams g c =
     let quiet = c.first_trouble.ensures.none (c.first_cause.ensures.none c.in-None.is).1 in
     let len = c.read_and_work-reading.auto.slots in
     let size = ap length c.as_mut_slice.ensures.value in
     let here = with_items_is c.seated-slots.result c.read_and_work-reading.new.slots (omega (arith, len, size, c.as_mut_slice.ensures.len)) in
     let tied = c.requires.channel in
-    let from = subst (DoneFrom (sends_on c.args.sender.now) (map pass_of c.as_mut_slice.result.now)) (sym here)
-    (all_from (sends_on c.args.sender.now) c.as_mut_slice.result.now c.read_and_work-reading.new.slots (omega (arith, len)) (rw tied at c.read_and_work-reading.ensures.slots)) in
+    let from = subst (DoneFrom (sends_on c.args.channel.sender) (map pass_of c.as_mut_slice.result.now)) (sym here)
+    (all_from (sends_on c.args.channel.sender) c.as_mut_slice.result.now c.read_and_work-reading.new.slots (omega (arith, len)) (rw tied at c.read_and_work-reading.ensures.slots)) in
     let gathered = c.gather-gathered.ensures.all quiet.0 (map pass_of c.as_mut_slice.result.now) from in
     let sent = c.gather-gathered.ensures.sent ∙ ap (λ (v : Hand). v.sent) c.read_and_work-reading.ensures.root.1 in
     let came = c.read_and_work-reading.ensures.datagrams (c.first_cause.ensures.none c.in-None.is).0 in (
@@ -39,15 +39,15 @@ returns-in-None-clause-datagrams g c =
       λ x. accounted (view c.gather-gathered.new.root) c.read_and_work-reading.result.count c.gather-gathered.result.taken.items c.gather-gathered.result.left.items c.drain-rest.new.left.items sent gathered.numbers (c.drain-rest.ensures.all quiet.1) (λ y. if y == x then 1 else 0),
     )
 
-pub returns-in-None-clause-passes : goal.returns-in-None-clause-passes
-returns-in-None-clause-passes g c =
+pub returns-clause-passes : goal.returns-clause-passes
+returns-clause-passes g c =
     let quiet = c.first_trouble.ensures.none (c.first_cause.ensures.none c.in-None.is).1 in
     let len = c.read_and_work-reading.auto.slots in
     let size = ap length c.as_mut_slice.ensures.value in
     let here = with_items_is c.seated-slots.result c.read_and_work-reading.new.slots (omega (arith, len, size, c.as_mut_slice.ensures.len)) in
     let tied = c.requires.channel in
-    let from = subst (DoneFrom (sends_on c.args.sender.now) (map pass_of c.as_mut_slice.result.now)) (sym here)
-    (all_from (sends_on c.args.sender.now) c.as_mut_slice.result.now c.read_and_work-reading.new.slots (omega (arith, len)) (rw tied at c.read_and_work-reading.ensures.slots)) in
+    let from = subst (DoneFrom (sends_on c.args.channel.sender) (map pass_of c.as_mut_slice.result.now)) (sym here)
+    (all_from (sends_on c.args.channel.sender) c.as_mut_slice.result.now c.read_and_work-reading.new.slots (omega (arith, len)) (rw tied at c.read_and_work-reading.ensures.slots)) in
     let gathered = c.gather-gathered.ensures.all quiet.0 (map pass_of c.as_mut_slice.result.now) from in
     let same = ap (map pass_of) c.as_mut_slice.ensures.value ∙ c.seated-slots.ensures.passes in
     subst (λ (ps : List Holder). EachGains ps (map (λ t. t.step) c.gather-gathered.result.taken.items) c.gather-gathered.result.passes.items) same gathered.gains
@@ -58,8 +58,8 @@ returns-in-Some-clause-back g c =
     let size = ap length c.as_mut_slice.ensures.value in
     let here = with_items_is c.seated-slots.result c.read_and_work-reading.new.slots (omega (arith, len, size, c.as_mut_slice.ensures.len)) in
     let tied = c.requires.channel in
-    let from = subst (DoneFrom (sends_on c.args.sender.now) (map pass_of c.as_mut_slice.result.now)) (sym here)
-    (all_from (sends_on c.args.sender.now) c.as_mut_slice.result.now c.read_and_work-reading.new.slots (omega (arith, len)) (rw tied at c.read_and_work-reading.ensures.slots)) in
+    let from = subst (DoneFrom (sends_on c.args.channel.sender) (map pass_of c.as_mut_slice.result.now)) (sym here)
+    (all_from (sends_on c.args.channel.sender) c.as_mut_slice.result.now c.read_and_work-reading.new.slots (omega (arith, len)) (rw tied at c.read_and_work-reading.ensures.slots)) in
     let same = ap (map pass_of) c.as_mut_slice.ensures.value ∙ c.seated-slots.ensures.passes in
     subst (λ (ps : List Holder). (numbers : List ℕ) × EachGains ps numbers c.gather-gathered.result.passes.items) same (c.gather-gathered.ensures.back (map pass_of c.as_mut_slice.result.now) from)
 

@@ -5,14 +5,14 @@ use Rattle.jr_disk.specs.Disk.{image}
 use Rattle.jr_disk.specs.Memory.{MemoryState}
 use Rattle.gw_event.specs.Gateways.{new_gateway}
 use Rattle.gw_node.specs.Parts.{state_of}
-use Rattle.gw_answer.specs.Answers.{told}
+use Rattle.gw_answer.specs.Answers.{refusal_of_fault}
 use Rattle.gw_world.specs.Keeping.{IsShown}
 use Rattle.gw_world.proofs.Opened.{new_shown, unplanned, only_memory_new}
 use Rattle.gw_world.proofs.running.new_node.Goals as goal
 
 pub want_of_memory-requires : goal.want_of_memory-requires
 want_of_memory-requires g c =
-    only_memory_new c.in_ok-copied.field-0 _ (told c.in-Err.fault) (ap (λ (d : MemoryState). image d.slots) c.new.ensures)
+    only_memory_new c.in_ok-copied.field-0 _ (refusal_of_fault c.in-Err.fault) (ap (λ (d : MemoryState). image d.slots) c.new.ensures)
     (c.in-Err.ensures.fault tt)
     (c.in-Err.ensures.blameless tt (unplanned _ _ c.new.ensures) (sym c.starved-in-Err.ensures ∙ c.if-starved-2.false)).0
 

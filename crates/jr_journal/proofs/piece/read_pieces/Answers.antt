@@ -1,7 +1,7 @@
 use Rattle.std.proofs.Common.{◌≡◌, ◌+◌, ◌-◌, ◌≤◌, true, false, ℕ, [], ◌∷◌, ◌++◌, length, drop, sym, ap, subst, ◌∙◌, arith}
 use Rattle.std.proofs.lemmas.List.{length-drop, nil_from_length}
 use Rattle.jr_journal.specs.declared.piece.Piece.TheVariants.{Whole}
-use Rattle.jr_journal.specs.Records.{found, made, piece_at}
+use Rattle.jr_journal.specs.Records.{found, found_of, piece_at}
 use Rattle.jr_journal.proofs.Loop.{IsSoFar, goes_on, seals, stops_at_end, stops_torn, stops_bad, stops_sealed, record_inside, at_front, at_flag, at_next}
 use Rattle.jr_journal.proofs.piece.read_pieces.Goals as goal
 
@@ -36,7 +36,7 @@ returns-then-sealed-clause-ok c =
     let whole = length c.args.bytes.now - length c.reading.left.now in
     let tag = c.in-Some.tag.now in
     let rest = c.in-Some.rest.now in
-    let flag : made c.reading.deltas c.reading.sealed whole true ≡ made c.reading.deltas true whole true = ap (λ s. made c.reading.deltas s whole true) c.if-sealed.true in
+    let flag : found_of c.reading.deltas c.reading.sealed whole true ≡ found_of c.reading.deltas true whole true = ap (λ s. found_of c.reading.deltas s whole true) c.if-sealed.true in
     c.found_until.ensures ∙ (flag ∙ stops_sealed total c.reading.deltas whole tag rest (sym c.in_ok-delta.ensures ∙ c.in-Seal.is)
     (at_flag total c.reading.deltas c.reading.sealed true whole (tag ∷ rest) c.if-sealed.true (at_front total c.reading.deltas c.reading.sealed whole c.reading.left.now tag rest c.in-Some.ensures.cases.0 c.reading.invariant.so_far)))
 

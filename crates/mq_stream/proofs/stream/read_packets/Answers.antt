@@ -3,13 +3,13 @@ use Rattle.std.specs.Prelude.{◌≢◌}
 use Rattle.mq_packet.specs.declared.fault.PacketFault.{PacketFault}
 use Rattle.mq_packet.specs.declared.fault.PacketFault.TheVariants as faults
 use Rattle.mq_packet.specs.declared.packet.Packet.{Packet}
-use Rattle.mq_stream.specs.Pieces.{IsFaulty, IsPiece, IsWanting, Reads}
+use Rattle.mq_stream.specs.Pieces.{IsFaulty, IsPiece, LacksPacket, ReadsPackets}
 use Rattle.mq_stream.proofs.Joining.{IsEnd, dropped-end, end-dropped, end-length, end-of-end, piece-end, reads-more}
 use Rattle.mq_stream.proofs.stream.read_packets.Goals as goal
 
 pub reading-init : goal.reading-init
 reading-init c = record {
-  read = subst (λ (ps : List Packet). Reads c.args.over c.args.octets.now ps c.passed-left.result.0 c.passed-left.result.1.now) (sym c.new-packets.ensures.items) (c.passed-left.ensures.over, c.passed-left.ensures.rest);
+  read = subst (λ (ps : List Packet). ReadsPackets c.args.over c.args.octets.now ps c.passed-left.result.0 c.passed-left.result.1.now) (sym c.new-packets.ensures.items) (c.passed-left.ensures.over, c.passed-left.ensures.rest);
   end = dropped-end c.args.octets.now c.passed-left.result.1.now c.args.over c.passed-left.ensures.rest;
 }
 
@@ -18,9 +18,9 @@ reading-preserved c =
     let found = c.in-Ok-Some.found in
     let old = c.reading.rest.now in
     let rest = c.passed-more.result.1.now in
-    let piece : IsPiece old found.packet found.over found.rest.now = subst (λ o. MatchOption o (IsWanting old) (λ f. IsPiece old f.packet f.over f.rest.now)) c.in-Ok-Some.field-0-is c.in-Ok-Some.ensures.ok in
-    let read : Reads c.args.over c.args.octets.now c.push.new.self.items c.passed-more.result.0 rest =
-    subst (λ (ps : List Packet). Reads c.args.over c.args.octets.now ps c.passed-more.result.0 rest) (sym c.in_ok-push-in-Ok-Some.ensures.items)
+    let piece : IsPiece old found.packet found.over found.rest.now = subst (λ o. MatchOption o (LacksPacket old) (λ f. IsPiece old f.packet f.over f.rest.now)) c.in-Ok-Some.field-0-is c.in-Ok-Some.ensures.ok in
+    let read : ReadsPackets c.args.over c.args.octets.now c.push.new.self.items c.passed-more.result.0 rest =
+    subst (λ (ps : List Packet). ReadsPackets c.args.over c.args.octets.now ps c.passed-more.result.0 rest) (sym c.in_ok-push-in-Ok-Some.ensures.items)
     (reads-more c.args.over c.args.octets.now c.reading.packets.items c.reading.left old found.packet found.over found.rest.now c.passed-more.result.0 rest c.reading.invariant.read piece c.passed-more.ensures.over c.passed-more.ensures.rest) in
     let behind = end-of-end c.args.octets.now old found.rest.now c.reading.invariant.end (piece-end old found.packet found.over found.rest.now piece) in
     record {
@@ -43,6 +43,6 @@ returns-in-Err c =
     let end = c.reading.invariant.end in
     let real = c.in_ok-real-in-Err.ensures.ok in (
       end-length octets rest end,
-      subst (λ zs. Reads c.args.over octets c.reading.packets.items c.reading.left zs) (end-dropped octets rest end) c.reading.invariant.read,
+      subst (λ zs. ReadsPackets c.args.over octets c.reading.packets.items c.reading.left zs) (end-dropped octets rest end) c.reading.invariant.read,
       left-faulty octets rest c.in-Err.fault c.in_ok-real-in-Err.field-0 end real.0 real.1 c.in-Err.ensures.err,
     )

@@ -1,11 +1,11 @@
 use Rattle.std.proofs.Common.{length}
-use Rattle.mq_stream.specs.Pieces.{Reads}
+use Rattle.mq_stream.specs.Pieces.{ReadsPackets}
 use Rattle.mq_stream.proofs.Joining.{IsEnd}
 use Rattle.mq_stream.proofs.stream.read_packets.Given as goal
 
 abbrev pub invariant-reading : goal.invariant-reading
 invariant-reading l = record {
-  read : Reads l.over l.octets l.packets.items l.left l.rest;
+  read : ReadsPackets l.over l.octets l.packets.items l.left l.rest;
   end : IsEnd l.octets l.rest;
 }
 

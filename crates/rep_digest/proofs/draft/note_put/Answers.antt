@@ -1,7 +1,7 @@
 use Rattle.std.proofs.Common.{ℕ, List, sym, subst, ◌∙◌}
 use Rattle.std.specs.List.{insert}
 use Rattle.std.specs.Ordering.{nat_cmp}
-use Rattle.sn_tables.specs.inner.Tables.{IsAt, IsGap}
+use Rattle.sn_tables.specs.inner.Tables.{IsFoundAt, IsGap}
 use Rattle.rep_digest.specs.WellMade.{OriginsAscend}
 use Rattle.rep_digest.specs.declared.entry.OriginEntry.{OriginEntry}
 use Rattle.rep_digest.proofs.Drafting.{ascend_from, gateway, put_nowhere, put_at, put_gap}
@@ -16,7 +16,7 @@ place-requires c = subst OriginsAscend (sym c.as_slice.ensures.value) (ascend_fr
 pub returns-in_ok-add_number-in-Ok : goal.returns-in_ok-add_number-in-Ok
 returns-in_ok-add_number-in-Ok c = λ A P e.
     let entry : OriginEntry = c.index_mut-entry.result.now in
-    let there = subst (λ (os : List OriginEntry). IsAt (λ o. nat_cmp o.origin c.args.put.now.origin) os c.in-Ok.at) c.as_slice.ensures.value c.in-Ok.ensures.1 in
+    let there = subst (λ (os : List OriginEntry). IsFoundAt (λ o. nat_cmp o.origin c.args.put.now.origin) os c.in-Ok.at) c.as_slice.ensures.value c.in-Ok.ensures.1 in
     put_at A P c.args.put.now c.args.origins.now.items c.in-Ok.at entry c.add_number.new.ranges (gateway c.args.put.now.origin (sym c.if-not-is_gateway.ensures)) e there c.index_mut-entry.ensures.value
     c.in_ok-add_number-in-Ok.ensures
 

@@ -1,7 +1,7 @@
 use Rattle.std.proofs.Common.{ℕ, List, set, sym, subst, ◌∙◌}
 use Rattle.std.specs.List.{insert}
 use Rattle.std.specs.Ordering.{nat_cmp}
-use Rattle.sn_tables.specs.inner.Tables.{IsAt, IsGap}
+use Rattle.sn_tables.specs.inner.Tables.{IsFoundAt, IsGap}
 use Rattle.rep_digest.specs.WellMade.{OriginsAscend}
 use Rattle.rep_digest.specs.declared.entry.OriginEntry.{OriginEntry}
 use Rattle.rep_digest.proofs.Drafting.{ascend_from, gateway, ack_nowhere, ack_at, ack_gap}
@@ -16,7 +16,7 @@ place-requires c = subst OriginsAscend (sym c.as_slice.ensures.value) (ascend_fr
 pub returns-in_ok-push-in-Ok : goal.returns-in_ok-push-in-Ok
 returns-in_ok-push-in-Ok c = λ A P e.
     let entry : OriginEntry = c.index_mut-entry.result.now in
-    let there = subst (λ (os : List OriginEntry). IsAt (λ o. nat_cmp o.origin c.args.range.origin) os c.in-Ok.at) c.as_slice.ensures.value c.in-Ok.ensures.1 in
+    let there = subst (λ (os : List OriginEntry). IsFoundAt (λ o. nat_cmp o.origin c.args.range.origin) os c.in-Ok.at) c.as_slice.ensures.value c.in-Ok.ensures.1 in
     (λ i. set c.args.origins.now.items c.in-Ok.at (record { origin = entry.origin; acknowledged = c.in_ok-push-in-Ok.ensures.ok i; waiting = entry.waiting }))
     ∙ ack_at A P c.args.range c.args.origins.now.items c.in-Ok.at entry (gateway c.args.range.origin (sym c.if-not-is_gateway.ensures)) e there c.index_mut-entry.ensures.value
 

@@ -1,6 +1,6 @@
 use Rattle.std.proofs.Common.{suc, get_or, drop, remove, filter, List, refl, sym, ap, ◌∙◌}
 use Rattle.rep_op.specs.declared.op.Put.{Put}
-use Rattle.rep_log.specs.Mail.{is_left}
+use Rattle.rep_log.specs.Mail.{is_uncovered}
 use Rattle.rep_log.specs.Origins.{ranges_in}
 use Rattle.rep_entry.proofs.Spans.{stays, goes}
 use Rattle.rep_entry.proofs.settling.drop_at.Goals as goal
@@ -11,8 +11,8 @@ returns-then-is_left c =
     let rs = ranges_in c.args.acks.now in
     let at = c.args.at in
     let p = c.index.result.now in
-    let left = ap (λ (ps : List Put). is_left rs (get_or ps at p)) (sym is) ∙ ap (is_left rs) (sym c.index.ensures) ∙ sym c.is_left.ensures ∙ c.if-is_left.true in
-    is ∙ stays rs at whole (filter (is_left rs) (drop (suc at) whole)) p refl lt left
+    let left = ap (λ (ps : List Put). is_uncovered rs (get_or ps at p)) (sym is) ∙ ap (is_uncovered rs) (sym c.index.ensures) ∙ sym c.is_left.ensures ∙ c.if-is_left.true in
+    is ∙ stays rs at whole (filter (is_uncovered rs) (drop (suc at) whole)) p refl lt left
 
 pub returns : goal.returns
 returns c =
@@ -20,5 +20,5 @@ returns c =
     let rs = ranges_in c.args.acks.now in
     let at = c.args.at in
     let p = c.index.result.now in
-    let gone = ap (λ (ps : List Put). is_left rs (get_or ps at p)) (sym is) ∙ ap (is_left rs) (sym c.index.ensures) ∙ sym c.is_left.ensures ∙ c.if-is_left.false in
-    c.remove.ensures.items ∙ ap (λ (ps : List Put). remove ps at) is ∙ goes rs at whole (filter (is_left rs) (drop (suc at) whole)) p refl lt gone
+    let gone = ap (λ (ps : List Put). is_uncovered rs (get_or ps at p)) (sym is) ∙ ap (is_uncovered rs) (sym c.index.ensures) ∙ sym c.is_left.ensures ∙ c.if-is_left.false in
+    c.remove.ensures.items ∙ ap (λ (ps : List Put). remove ps at) is ∙ goes rs at whole (filter (is_uncovered rs) (drop (suc at) whole)) p refl lt gone

@@ -1,7 +1,7 @@
 use Rattle.std.proofs.Common.{ℕ, List, T, sym, ap, subst, ◌∙◌}
 use Rattle.std.specs.FinMap.{is_sorted}
 use Rattle.rep_op.specs.Orders.{client_cmp}
-use Rattle.rep_shared.specs.Rows.{moved}
+use Rattle.rep_shared.specs.Rows.{rows_with}
 use Rattle.rep_plain.specs.declared.entry.Entry.{Entry}
 use Rattle.rep_plain.specs.Tables.{rows_of, HaveRoom}
 use Rattle.rep_plain.specs.inner.Tables.{AreMovable}
@@ -15,7 +15,7 @@ pub loop-client-init : goal.loop-client-init
 loop-client-init c =
     let es = c.args.table.now.entries in
     let is = c.into_iter-client-iterator.ensures.into_iter_gives.0 in (
-      ap (λ (it : Entries). moved (rows_of es) (rows_of it)) is,
+      ap (λ (it : Entries). rows_with (rows_of es) (rows_of it)) is,
       subst (λ (it : Entries). HaveRoom (rows_of es) (rows_of it)) (sym is) c.requires.room,
       subst (λ (it : Entries). AreMovable es it) (sym is) c.requires.movable,
       subst (λ (it : Entries). T (is_sorted client_cmp (rows_of it))) (sym is) c.requires.sorted,
@@ -47,7 +47,7 @@ loop-client-preserved c =
 pub returns-clause-rows : goal.returns-clause-rows
 returns-clause-rows c =
     let es = c.loop-client.table.entries in
-    sym (ap (λ (it : Entries). moved (rows_of es) (rows_of it)) c.in-None.ensures.steps.0) ∙ c.loop-client.invariant.0
+    sym (ap (λ (it : Entries). rows_with (rows_of es) (rows_of it)) c.in-None.ensures.steps.0) ∙ c.loop-client.invariant.0
 
 pub returns-clause-movable : goal.returns-clause-movable
 returns-clause-movable c = subst (λ (it : Entries). AreMovable c.loop-client.table.entries it) c.in-None.ensures.steps.0 c.loop-client.invariant.2

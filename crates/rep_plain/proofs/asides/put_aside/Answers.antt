@@ -3,7 +3,7 @@ use Rattle.std.specs.BTreeMap.{insert_entry}
 use Rattle.rep_op.specs.Orders.{client_cmp}
 use Rattle.rep_shared.specs.Rows.{has_any}
 use Rattle.rep_plain.specs.declared.entry.Entry.{Entry}
-use Rattle.rep_plain.specs.Tables.{rows_of, IsTable}
+use Rattle.rep_plain.specs.Tables.{rows_of, IsPlainTable}
 use Rattle.rep_plain.specs.inner.Tables.{IsSaving}
 use Rattle.rep_shared.proofs.Flat.{one_if}
 use Rattle.rep_plain.proofs.Moves.{any_length, place_there}
@@ -22,7 +22,7 @@ returns-in_err-insert-clause-saving c =
     λ rows sorted there own. subst (λ (es : List (List ℕ × Entry)). IsSaving rows (rows_of old) (rows_of es)) (sym c.in_err-insert.ensures.err) (saving_itself rows (rows_of old))
 
 pub returns-in_err-insert-clause-table : goal.returns-in_err-insert-clause-table
-returns-in_err-insert-clause-table c = subst (λ (es : List (List ℕ × Entry)). IsTable es c.args.named.now) (sym c.in_err-insert.ensures.err) c.requires.aside
+returns-in_err-insert-clause-table c = subst (λ (es : List (List ℕ × Entry)). IsPlainTable es c.args.named.now) (sym c.in_err-insert.ensures.err) c.requires.aside
 
 -- it has operations
 pub returns-then-not-is_empty-clause-table : goal.returns-then-not-is_empty-clause-table

@@ -1,5 +1,5 @@
 use Rattle.std.proofs.Common.{length, ap, ◌∙◌}
-use Rattle.rep_model.specs.Views.{session_of}
+use Rattle.rep_model.specs.Views.{session_made}
 use Rattle.rep_shared.specs.Steps.{capped}
 use Rattle.rep_plain.specs.inner.Steps.{above_gaps}
 use Rattle.rep_plain.proofs.Workings.{history_in_order, exceptions_of_ranges}
@@ -13,7 +13,7 @@ returns-clause-seen c =
     let seen = c.visible_stamp-stamp.ensures in
     let all = history_in_order client S c.in_ok-known.known.entries c.visible_stamp-stamp.result c.in_ok-known.ensures seen in
     let prefix = c.in_ok-prefix.ensures.prefix ∙ ap length all in
-    let session = c.in_ok-prefix.ensures.session ∙ ap session_of all in
+    let session = c.in_ok-prefix.ensures.session ∙ ap session_made all in
     λ i. record { stamp = seen i; prefix = prefix i; session = session i; pending = c.in_ok-pending.ensures i }
 
 pub returns-clause-parked : goal.returns-clause-parked

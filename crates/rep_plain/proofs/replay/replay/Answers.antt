@@ -1,7 +1,7 @@
 use Rattle.std.proofs.Common.{◌≡◌, ℕ, ◌+◌, length, Some, None, sym, ap, subst, ◌∙◌, arith}
 use Rattle.std.specs.FinMap.{find}
 use Rattle.rep_op.specs.Orders.{operation_cmp}
-use Rattle.rep_model.specs.Views.{history_at, session_of}
+use Rattle.rep_model.specs.Views.{history_at, session_made}
 use Rattle.rep_shared.proofs.Maps.{lookup_is_find}
 use Rattle.rep_shared.specs.inner.Replays.{IsReplayed}
 use Rattle.rep_shared.proofs.Replays.{replayed_more, replayed_gap, replayed_all}
@@ -21,7 +21,7 @@ returns-in_default-get-clause-session c =
     let at = λ (k : ℕ). find operation_cmp (c.in-Some.stamp, k) es in
     let gap : at c.loop-counter.counter ≡ None = sym (lookup_is_find operation_cmp (c.in-Some.stamp, c.loop-counter.counter) es) ∙ sym c.in_default-get.ensures.value in
     (replayed_gap at c.loop-counter.session c.loop-counter.counter c.loop-counter-test.true gap c.loop-counter.invariant).1
-    ∙ ap (λ v. session_of (history_at (λ name. find operation_cmp name es) v)) (sym c.in-Some.is)
+    ∙ ap (λ v. session_made (history_at (λ name. find operation_cmp name es) v)) (sym c.in-Some.is)
 
 pub loop-counter-preserved : goal.loop-counter-preserved
 loop-counter-preserved c =
@@ -44,4 +44,4 @@ returns-clause-session c =
     let es = c.args.known.now.entries in
     let at = λ (k : ℕ). find operation_cmp (c.in-Some.stamp, k) es in
     (replayed_all at c.loop-counter.session c.loop-counter.counter (omega arith) c.loop-counter.invariant).1
-    ∙ ap (λ v. session_of (history_at (λ name. find operation_cmp name es) v)) (sym c.in-Some.is)
+    ∙ ap (λ v. session_made (history_at (λ name. find operation_cmp name es) v)) (sym c.in-Some.is)

@@ -3,7 +3,7 @@ use Rattle.std.proofs.lemmas.List.Elements.{Contains-get_or, All-from_recursion,
 use Rattle.rep_op.specs.declared.op.Op.{Op}
 use Rattle.rep_op.specs.Orders.{is_of_client}
 use Rattle.rep_retain.specs.Tables.{ops_of}
-use Rattle.rep_retain.specs.Refusals.{IsConflict}
+use Rattle.rep_retain.specs.Refusals.{IsContradiction}
 use Rattle.rep_retain.proofs.table.check_all.Goals as goal
 
 pub agrees-requires-clause-topic : goal.agrees-requires-clause-topic
@@ -19,6 +19,6 @@ returns-then-not-agrees-clause-fault c =
     let K = ops_of c.args.entries.now in
     let here = subst (Contains ops) (sym c.op-item.is) (Contains-get_or ops c.loop-op.op-index op c.loop-op-test.true) in
     ⊎_elim
-    (λ is. subst (IsConflict K ops) (sym is) (op, here, refl, λ h. true≢false (sym (c.agrees.ensures.1 h) ∙ c.if-not-agrees.true)))
-    (λ is. subst (IsConflict K ops) (sym is) tt)
+    (λ is. subst (IsContradiction K ops) (sym is) (op, here, refl, λ h. true≢false (sym (c.agrees.ensures.1 h) ∙ c.if-not-agrees.true)))
+    (λ is. subst (IsContradiction K ops) (sym is) tt)
     c.conflict.ensures

@@ -1,5 +1,5 @@
 use Rattle.std.proofs.Common.{Some, None, true, IsTrue, refl, sym, ap, subst, ◌∙◌}
-use Rattle.rep_log.specs.Mail.{put_named, Rising}
+use Rattle.rep_log.specs.Mail.{put_by_name, Rising}
 use Rattle.rep_state.proofs.Contradicting.{agrees_session, agrees_put}
 use Rattle.rep_state.proofs.agreeing.agrees_with.Goals as goal
 
@@ -12,11 +12,11 @@ returns-in-None c = agrees_session c.args.entry.now c.in-Session.client c.in-Ses
 pub returns-in-Some-find_put : goal.returns-in-Some-find_put
 returns-in-Some-find_put c =
     let p = c.in-Put.put in
-    let found = c.in-Some-find_put.ensures (subst Rising (sym c.as_slice.ensures) c.requires.rising) ∙ ap (put_named (p.seq, p.origin)) c.as_slice.ensures in
+    let found = c.in-Some-find_put.ensures (subst Rising (sym c.as_slice.ensures) c.requires.rising) ∙ ap (put_by_name (p.seq, p.origin)) c.as_slice.ensures in
     agrees_put c.args.entry.now c.in-Put.client p c.args.op.now (Some c.in-Some-find_put.kept.now) (IsTrue c.same_put.result) c.in-Put.is found c.same_put.ensures
 
 pub returns-in-None-find_put : goal.returns-in-None-find_put
 returns-in-None-find_put c =
     let p = c.in-Put.put in
-    let found = c.in-None-find_put.ensures (subst Rising (sym c.as_slice.ensures) c.requires.rising) ∙ ap (put_named (p.seq, p.origin)) c.as_slice.ensures in
+    let found = c.in-None-find_put.ensures (subst Rising (sym c.as_slice.ensures) c.requires.rising) ∙ ap (put_by_name (p.seq, p.origin)) c.as_slice.ensures in
     agrees_put c.args.entry.now c.in-Put.client p c.args.op.now None (IsTrue true) c.in-Put.is found (λ _. tt, λ _. refl)

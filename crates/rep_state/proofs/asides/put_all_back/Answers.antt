@@ -1,7 +1,7 @@
 use Rattle.std.proofs.Common.{◌≡◌, ℕ, List, map, Some, IsSome, sym, ap, subst, ◌∙◌, Vec, Global}
 use Rattle.std.specs.FinMap.{find, put}
 use Rattle.rep_op.specs.Orders.{client_cmp}
-use Rattle.rep_shared.specs.Rows.{moved}
+use Rattle.rep_shared.specs.Rows.{rows_with}
 use Rattle.rep_entry.specs.declared.entry.Entry.{Entry}
 use Rattle.rep_state.specs.Tables.{by_client, rows_of, ArePlaces}
 use Rattle.rep_state.specs.Interests.{AreMarked}
@@ -48,4 +48,4 @@ pub returns-clause-rows : goal.returns-clause-rows
 returns-clause-rows c =
     let rows = rows_of (by_client c.loop-client.table.entries) in
     let none = empty_of c.loop-client.aside.entries c.in_default.ensures.found.1 in
-    sym (ap (λ (xs : List (Vec ℕ Global × Entry)). moved rows (rows_of (by_client xs))) none) ∙ c.loop-client.invariant.0
+    sym (ap (λ (xs : List (Vec ℕ Global × Entry)). rows_with rows (rows_of (by_client xs))) none) ∙ c.loop-client.invariant.0

@@ -7,8 +7,8 @@ use Rattle.rep_op.specs.Orders.{client_cmp}
 use Rattle.rep_shared.specs.Rows.{has_any}
 use Rattle.rep_shared.proofs.Flat.{one_if}
 use Rattle.rep_entry.specs.declared.entry.Entry.{Entry}
-use Rattle.rep_entry.specs.Entries.{row_of}
-use Rattle.rep_state.specs.Tables.{by_client, rows_of, IsTable}
+use Rattle.rep_entry.specs.Entries.{entry_row}
+use Rattle.rep_state.specs.Tables.{by_client, rows_of, IsEntryTable}
 use Rattle.rep_state.specs.inner.Tables.{place_cmp, IsSaving}
 use Rattle.rep_state.specs.declared.places.Place.{Place}
 use Rattle.rep_state.proofs.Rows.{put_by_client, found_by_client}
@@ -38,7 +38,7 @@ returns-in_err-insert-clause-saving c =
     λ rows sorted there own. subst (λ (es : List (Vec ℕ Global × Entry)). IsSaving rows (rows_of (by_client old)) (rows_of (by_client es))) (sym c.in_err-insert.ensures.err) (saving_itself rows (rows_of (by_client old)))
 
 pub returns-in_err-insert-clause-table : goal.returns-in_err-insert-clause-table
-returns-in_err-insert-clause-table c = subst (λ (es : List (Vec ℕ Global × Entry)). IsTable (by_client es) c.args.count.now) (sym c.in_err-insert.ensures.err) c.requires.aside
+returns-in_err-insert-clause-table c = subst (λ (es : List (Vec ℕ Global × Entry)). IsEntryTable (by_client es) c.args.count.now) (sym c.in_err-insert.ensures.err) c.requires.aside
 
 -- it has operations
 pub returns-then-has_operations-clause-table : goal.returns-then-has_operations-clause-table
@@ -48,7 +48,7 @@ returns-then-has_operations-clause-table c =
     let new = c.insert.new.self.entries in
     let e = c.args.held.now in
     let is : by_client new ≡ put client_cmp client e (by_client old) = put_by_client c.in_ok-key.key c.in_ok-copy.copy old new c.in_ok-insert.ensures.entries ∙ (λ i. put client_cmp (c.in_ok-key.ensures i) (c.in_ok-copy.ensures i) (by_client old)) in
-    let any : has_any (row_of client e) ≡ true = sym (c.has_operations.ensures client) ∙ c.if-has_operations.true in
+    let any : has_any (entry_row client e) ≡ true = sym (c.has_operations.ensures client) ∙ c.if-has_operations.true in
     aside_more (by_client old) (by_client new) client e is c.requires.absent c.args.count.now (c.args.count.now + 1) c.requires.aside c.requires.kept (ap (λ (b : Bool). c.args.count.now + one_if b) (sym any)) c.requires.few
 
 pub returns-then-has_operations-clause-places : goal.returns-then-has_operations-clause-places
@@ -103,7 +103,7 @@ returns-else-has_operations-clause-table c =
     let new = c.insert.new.self.entries in
     let e = c.args.held.now in
     let is : by_client new ≡ put client_cmp client e (by_client old) = put_by_client c.in_ok-key.key c.in_ok-copy.copy old new c.in_ok-insert.ensures.entries ∙ (λ i. put client_cmp (c.in_ok-key.ensures i) (c.in_ok-copy.ensures i) (by_client old)) in
-    let any : has_any (row_of client e) ≡ false = sym (c.has_operations.ensures client) ∙ c.if-has_operations.false in
+    let any : has_any (entry_row client e) ≡ false = sym (c.has_operations.ensures client) ∙ c.if-has_operations.false in
     let same : c.args.count.now ≡ c.args.count.now + 0 = omega arith in
     aside_more (by_client old) (by_client new) client e is c.requires.absent c.args.count.now c.args.count.now c.requires.aside c.requires.kept (same ∙ ap (λ (b : Bool). c.args.count.now + one_if b) (sym any)) c.requires.few
 

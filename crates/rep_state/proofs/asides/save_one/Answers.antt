@@ -2,7 +2,7 @@ use Rattle.std.proofs.Common.{◌≡◌, Some, None, is_some, true≢false, sym,
 use Rattle.std.specs.FinMap.{find}
 use Rattle.rep_op.specs.Orders.{client_cmp}
 use Rattle.rep_model.proofs.Readers.{client_exact}
-use Rattle.rep_entry.specs.Entries.{row_of}
+use Rattle.rep_entry.specs.Entries.{entry_row}
 use Rattle.rep_entry.proofs.Owning.{found_holds}
 use Rattle.rep_state.specs.Tables.{by_client, rows_of, IsKept}
 use Rattle.rep_state.proofs.Rows.{found_by_client}
@@ -40,7 +40,7 @@ put_aside-requires-clause-few c =
     let xs = c.args.aside.now.entries in
     let absent = none_there (find client_cmp client (by_client xs)) (ap is_some (sym (found_by_client client xs)) ∙ sym c.contains_key.ensures ∙ c.if-contains_key.false) in
     let own = sym (own_found client (by_client es) (Some c.in-Some.held.now) (c.in-Some.ensures.value ∙ found_by_client client es)) in
-    few_more (rows_of (by_client es)) (by_client xs) c.args.count.now client (row_of client c.in-Some.held.now) (rows_sorted (by_client es) (in_order es)) c.requires.aside c.requires.can c.requires.there absent own
+    few_more (rows_of (by_client es)) (by_client xs) c.args.count.now client (entry_row client c.in-Some.held.now) (rows_sorted (by_client es) (in_order es)) c.requires.aside c.requires.can c.requires.there absent own
 
 pub returns-clause-saving : goal.returns-clause-saving
 returns-clause-saving c =

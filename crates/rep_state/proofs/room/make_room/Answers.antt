@@ -4,7 +4,7 @@ use Rattle.std.specs.FinMap.{find}
 use Rattle.rep_op.specs.Orders.{client_cmp}
 use Rattle.rep_state.specs.Tables.{by_client, rows_of}
 use Rattle.rep_entry.specs.Staging.{staged_of}
-use Rattle.rep_state.specs.inner.Staging.{HaveRoom}
+use Rattle.rep_state.specs.inner.Staging.{HavePlaces}
 use Rattle.rep_state.proofs.Placing.{roomier_itself, roomier_then}
 use Rattle.rep_state.proofs.Staging.{staged_last, room_more}
 use Rattle.rep_state.proofs.room.make_room.Goals as goal
@@ -20,7 +20,7 @@ loop-row-preserved c =
     let h = c.in_ok-add_place.ensures.roomier in
     let there = subst (λ k. IsSome (find client_cmp k (rows_of new))) c.as_slice.ensures.value c.in_ok-add_place.ensures.there in
     let is = ap staged_of (take_more changes c.loop-row.row-index row c.loop-row-test.true ∙ ap (λ r. done ++ r ∷ []) (sym c.row-item.is)) ∙ staged_last done row in
-    (roomier_then c.loop-row.invariant.0 h, subst (HaveRoom new) (sym is) (room_more old new (staged_of done) (name, row.1) h c.loop-row.invariant.1 there), c.in_ok-add_place.ensures.places, c.in_ok-add_place.ensures.marks)
+    (roomier_then c.loop-row.invariant.0 h, subst (HavePlaces new) (sym is) (room_more old new (staged_of done) (name, row.1) h c.loop-row.invariant.1 there), c.in_ok-add_place.ensures.places, c.in_ok-add_place.ensures.marks)
 
 pub add_place-requires-clause-places : goal.add_place-requires-clause-places
 add_place-requires-clause-places c = c.loop-row.invariant.2

@@ -8,7 +8,7 @@ use Rattle.rep_state.specs.Tables.{by_client, IsKept}
 use Rattle.rep_entry.proofs.Owning.{found_holds}
 use Rattle.rep_state.specs.inner.Groups.{or_nothing_held}
 use Rattle.rep_entry.specs.Staging.{IsFit}
-use Rattle.rep_entry.specs.Applied.{applied}
+use Rattle.rep_entry.specs.Applied.{entry_applied}
 use Rattle.rep_state.proofs.Rows.{written_by_client, found_by_client}
 use Rattle.rep_state.proofs.Indexed.{places_written}
 use Rattle.rep_state.proofs.room.move_one.Goals as goal
@@ -43,7 +43,7 @@ returns-clause-put c =
     let found = sym (found_by_client client old) ∙ sym c.in-Some.ensures.value in
     let there = ap is_some (found_by_client client old) ∙ c.requires.ready.is_there in
     written_by_client client e old (c.get_mut.follows.lender e).entries there wrote.0
-    ∙ ap (λ x. put client_cmp client x (by_client old)) (c.put_into.ensures ∙ sym (ap (λ e. applied e c.args.change) (ap or_nothing_held found)))
+    ∙ ap (λ x. put client_cmp client x (by_client old)) (c.put_into.ensures ∙ sym (ap (λ e. entry_applied e c.args.change) (ap or_nothing_held found)))
 
 pub returns-clause-places : goal.returns-clause-places
 returns-clause-places c =

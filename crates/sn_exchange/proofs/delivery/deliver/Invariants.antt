@@ -6,5 +6,5 @@ use Rattle.sn_exchange.proofs.delivery.deliver.Given as goal
 
 abbrev pub invariant-loop-put : goal.invariant-loop-put
 invariant-loop-put l =
-    deliver l.predefined l.peer l.session (left l.acks (drop l.put-index l.pending)) l.draft
-    ≡ deliver l.predefined l.peer l.session (left l.acks l.pending) l.fn.draft
+    deliver l.visit.predefined.now l.visit.peer.now l.visit.session.now (left l.acks (drop l.put-index l.pending)) l.draft
+    ≡ deliver l.visit.predefined.now l.visit.peer.now l.visit.session.now (left l.acks l.pending) l.fn.draft

@@ -7,5 +7,5 @@ use Rattle.sn_plan.proofs.numbering.number_handed.Given as goal
 
 abbrev pub invariant-loop-posted : goal.invariant-loop-posted
 invariant-loop-posted g l =
-    with_handed l.gateway l.expires l.client l.next (into_iter_items l.posted-iterator) l.ops.items
-    ≡ with_handed l.gateway l.expires l.client (next_seq l.client l.gateway (g.R.Replica.kept l.replica)) l.fn.handed.items l.fn.ops.items
+    with_handed l.origin.gateway l.origin.expires l.client l.next (into_iter_items l.posted-iterator) l.ops.items
+    ≡ with_handed l.origin.gateway l.origin.expires l.client (next_seq l.client l.origin.gateway (g.R.Replica.kept l.replica)) l.fn.handed.items l.fn.ops.items

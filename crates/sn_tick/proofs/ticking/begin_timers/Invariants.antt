@@ -6,9 +6,9 @@ use Rattle.sn_tick.proofs.ticking.begin_timers.Given as goal
 
 abbrev pub invariant-loop-behind : goal.invariant-loop-behind
 invariant-loop-behind g l =
-    let S = g.R.Replica.kept l.replica in
-    timers_begun l.gateway (seen_of S) l.dialogs.local.timers l.now (drop l.place (clients S)) l.draft
-    ≡ timers_begun l.gateway (seen_of S) l.dialogs.local.timers l.now (clients S) l.fn.draft
+    let S = g.R.Replica.kept l.turn.replica.now in
+    timers_begun l.turn.config.now.gateway (seen_of S) l.turn.dialogs.now.local.timers l.turn.moment (drop l.place (clients S)) l.draft
+    ≡ timers_begun l.turn.config.now.gateway (seen_of S) l.turn.dialogs.now.local.timers l.turn.moment (clients S) l.fn.draft
 
 abbrev pub decreases-loop-behind : goal.decreases-loop-behind
-decreases-loop-behind g l = length (drop l.place (clients (g.R.Replica.kept l.replica)))
+decreases-loop-behind g l = length (drop l.place (clients (g.R.Replica.kept l.turn.replica.now)))

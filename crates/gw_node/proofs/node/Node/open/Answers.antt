@@ -1,8 +1,8 @@
 -- What was opened is what was found.
 use Rattle.std.proofs.Common.{refl, inl}
 use Rattle.jr_disk.specs.Disk.{image}
-use Rattle.jr_journal.specs.Parts.{disk_of}
-use Rattle.gw_answer.specs.Answers.{told}
+use Rattle.jr_journal.specs.Parts.{disk_under}
+use Rattle.gw_answer.specs.Answers.{refusal_of_fault}
 use Rattle.gw_node.proofs.Started.{leaves_itself, leaves_no_more, takes_kept, opened_takes, opened_keeps, opened_none, opened_again, opened_back, opened_place, opened_leaves, started_leaves, started_fits}
 use Rattle.gw_node.proofs.node.Node.open.Goals as goal
 
@@ -43,8 +43,8 @@ returns-in-Ok-open-clause-place g c = λ honest.
 
 pub returns-in-Ok-open-clause-leaves : goal.returns-in-Ok-open-clause-leaves
 returns-in-Ok-open-clause-leaves g c = λ honest.
-    opened_leaves g.D.Disk.slots c.start.result (disk_of c.in-Ok-open.journal) c.args.config.gateway (g.D.Disk.slots c.args.disk)
-    (leaves_no_more c.args.config.gateway (g.D.Disk.slots c.args.disk) (g.D.Disk.slots (disk_of c.in-Ok-open.journal)) c.in-Ok-open.deltas.items (c.in-Ok-open.ensures.records honest)
+    opened_leaves g.D.Disk.slots c.start.result (disk_under c.in-Ok-open.journal) c.args.config.gateway (g.D.Disk.slots c.args.disk)
+    (leaves_no_more c.args.config.gateway (g.D.Disk.slots c.args.disk) (g.D.Disk.slots (disk_under c.in-Ok-open.journal)) c.in-Ok-open.deltas.items (c.in-Ok-open.ensures.records honest)
     (c.in-Ok-open.ensures.found honest) (c.in-Ok-open.ensures.durable honest))
     c.start.ensures.disk
 
@@ -56,7 +56,7 @@ returns-in_default-nothing-clause-slots g c = λ honest. inl refl
 
 pub returns-in-Ok-open-clause-slots : goal.returns-in-Ok-open-clause-slots
 returns-in-Ok-open-clause-slots g c = λ honest.
-    started_leaves g.D.Disk.slots told c.start.result (disk_of c.in-Ok-open.journal) c.args.config.gateway (g.D.Disk.slots c.args.disk) c.in-Ok-open.deltas.items
+    started_leaves g.D.Disk.slots refusal_of_fault c.start.result (disk_under c.in-Ok-open.journal) c.args.config.gateway (g.D.Disk.slots c.args.disk) c.in-Ok-open.deltas.items
     (c.in-Ok-open.ensures.known honest) c.start.ensures.disk c.start.ensures.err
 
 pub returns-in-Ok-open-clause-fits : goal.returns-in-Ok-open-clause-fits

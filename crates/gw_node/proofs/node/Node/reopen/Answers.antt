@@ -1,13 +1,7 @@
 use Rattle.gw_node.specs.Parts.{state_of}
-use Rattle.gw_node.proofs.Taken.{reopen_carries_on}
 use Rattle.gw_node.proofs.Leading.{event_on}
 use Rattle.gw_answer.specs.declared.step.Step.TheVariants as steps
 use Rattle.gw_node.proofs.node.Node.reopen.Goals as goal
-
-pub returns-clause-taken : goal.returns-clause-taken
-returns-clause-taken g c =
-    rw c.one_share.ensures
-    (reopen_carries_on (state_of g.R.Replica.kept c.args.self.now) (state_of g.R.Replica.kept c.handle_reopen.new.node) c.handle_reopen.result c.handle_reopen.ensures)
 
 pub returns-clause-event : goal.returns-clause-event
 returns-clause-event g c =

@@ -1,15 +1,9 @@
 use Rattle.gw_node.specs.Parts.{state_of}
-use Rattle.gw_node.proofs.Taken.{take_carries_on}
 use Rattle.gw_node.proofs.Leading.{event_on}
 use Rattle.gw_answer.specs.declared.step.Step.TheVariants as steps
 use Rattle.gw_node.proofs.node.Node.take.Goals as goal
 
-pub returns-clause-taken : goal.returns-clause-taken
-returns-clause-taken g c =
-    rw c.one_share.ensures
-    (take_carries_on (state_of g.R.Replica.kept c.args.self.now) (state_of g.R.Replica.kept c.take_in.new.node) c.args.delta.now c.take_in.result c.take_in.ensures)
-
 pub returns-clause-event : goal.returns-clause-event
 returns-clause-event g c =
     rw c.one_share.ensures
-    (event_on (state_of g.R.Replica.kept c.args.self.now) (state_of g.R.Replica.kept c.take_in.new.node) (steps.Take c.args.delta.now) c.take_in.result c.take_in.ensures)
+    (event_on (state_of g.R.Replica.kept c.args.self.now) (state_of g.R.Replica.kept c.write_and_take.new.node) (steps.Take c.args.delta.now) c.write_and_take.result c.write_and_take.ensures)

@@ -1,14 +1,7 @@
-use Rattle.gw_event.specs.Occasions.{Clock}
 use Rattle.gw_node.specs.Parts.{state_of}
-use Rattle.gw_node.proofs.Taken.{own_carries_on}
 use Rattle.gw_node.proofs.Leading.{event_on}
 use Rattle.gw_answer.specs.declared.step.Step.TheVariants as steps
 use Rattle.gw_node.proofs.node.Node.tick.Goals as goal
-
-pub returns-clause-taken : goal.returns-clause-taken
-returns-clause-taken g c =
-    rw c.one_share.ensures
-    (own_carries_on (state_of g.R.Replica.kept c.args.self.now) (state_of g.R.Replica.kept c.handle_tick.new.node) Clock c.args.now c.handle_tick.result c.handle_tick.ensures)
 
 pub returns-clause-event : goal.returns-clause-event
 returns-clause-event g c =

@@ -29,5 +29,4 @@ invariant_of-self-clause-legal g c =
     _
     c.deref.ensures
     first.ensures.third
-    first.ensures.call
-    first.ensures.taken)))
+    first.ensures.call)))

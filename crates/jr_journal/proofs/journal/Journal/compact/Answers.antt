@@ -23,7 +23,7 @@ returns-in_err-write_anew-clause-torn g c = λ honest told.
       spelled = ◌∙◌ {c = base_bytes s.gateway c.in-Some.generation c.args.base.now} c.deref.ensures.value c.in_ok-bytes.ensures.ok;
     } in
     torn_compact s.gateway s.slot s.generation c.in-Some.generation s.halted old new c.args.base.now bytes h
-    (subst (λ (x : Slot). (new ≡ old) ⊎ ((n : ℕ) × (new ≡ with_more (emptied old x) x (take n bytes)))) c.other-slot.ensures (c.in_err-write_anew.ensures.part honest))
+    (subst (λ (x : Slot). (new ≡ old) ⊎ ((n : ℕ) × (new ≡ with_more (emptied old x) x (take n bytes)))) c.other_slot-slot.ensures (c.in_err-write_anew.ensures.part honest))
 
 pub invariant_of-self-2 : goal.invariant_of-self-2
 invariant_of-self-2 g c = record {
@@ -40,8 +40,8 @@ invariant_of-self-2 g c = record {
         fits = c.in-Some.ensures.0;
         spelled = ◌∙◌ {c = base_bytes s.gateway c.in-Some.generation c.args.base.now} c.deref.ensures.value c.in_ok-bytes.ensures.ok;
       } in
-      let done = subst (λ (x : Slot). new ≡ after_append None (emptied old x) x bytes) c.other-slot.ensures (c.in_ok-write_anew.ensures.exact honest) in
-      ap (λ x. is_in_use s.gateway x c.in-Some.generation new) c.other-slot.ensures
+      let done = subst (λ (x : Slot). new ≡ after_append None (emptied old x) x bytes) c.other_slot-slot.ensures (c.in_ok-write_anew.ensures.exact honest) in
+      ap (λ x. is_in_use s.gateway x c.in-Some.generation new) c.other_slot-slot.ensures
       ∙ compact_settles s.gateway s.slot s.generation c.in-Some.generation s.halted old new c.args.base.now bytes h done;
 }
 
@@ -59,5 +59,5 @@ returns-clause-durable g c = λ honest.
       fits = c.in-Some.ensures.0;
       spelled = ◌∙◌ {c = base_bytes s.gateway c.in-Some.generation c.args.base.now} c.deref.ensures.value c.in_ok-bytes.ensures.ok;
     } in
-    let done = subst (λ (x : Slot). new ≡ after_append None (emptied old x) x bytes) c.other-slot.ensures (c.in_ok-write_anew.ensures.exact honest) in
+    let done = subst (λ (x : Slot). new ≡ after_append None (emptied old x) x bytes) c.other_slot-slot.ensures (c.in_ok-write_anew.ensures.exact honest) in
     compact_durable s.gateway s.slot s.generation c.in-Some.generation s.halted old new c.args.base.now bytes h done

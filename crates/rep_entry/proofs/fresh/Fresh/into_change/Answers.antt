@@ -1,6 +1,6 @@
 use Rattle.std.proofs.Common.{◌≡◌, ℕ, ◌+◌, ◌==◌, ◌≤◌, false, length, vec_capacity, List, filter, sym, ap, subst, ◌∙◌}
 use Rattle.rep_op.specs.declared.op.Put.{Put}
-use Rattle.rep_log.specs.Mail.{Rising, NoneCovered, InOne, is_left, weave}
+use Rattle.rep_log.specs.Mail.{Rising, NoneCovered, InOne, is_uncovered, weave}
 use Rattle.rep_entry.specs.Spans.{IsFreeOutside, AreFreeOutside}
 use Rattle.rep_log.specs.Origins.{ranges_in, ranges_on}
 use Rattle.rep_entry.specs.Entries.{AreMade, messages, base_of, row_on}
@@ -57,7 +57,7 @@ returns-in-Ok-clause-counted c =
     (subst Rising (sym comes) (rising_messages f.news fresh.under fresh.sorted))
     (subst (λ rs. AreFreeOutside f.span rs ps) (sym acks) fresh.waits)
     (subst (AreFreeOutside f.span rs) (sym comes) (subst (λ rs. AreFreeOutside f.span rs (messages f.news)) (sym acks) (free_messages f.span (ranges_on (ranges_in e.acks) f.acks) f.news fresh.comes)))
-    ∙ (λ i. length (filter (is_left (acks i)) (all i)))
+    ∙ (λ i. length (filter (is_uncovered (acks i)) (all i)))
 
 pub returns-in-Ok-clause-row : goal.returns-in-Ok-clause-row
 returns-in-Ok-clause-row c =

@@ -4,7 +4,7 @@ use Rattle.std.specs.FinMap.{is_sorted}
 use Rattle.rep_op.specs.declared.op.Put.{Put}
 use Rattle.rep_op.specs.Orders.{put_cmp}
 use Rattle.rep_op.specs.WellMade.{is_put}
-use Rattle.rep_log.specs.Mail.{InOne, is_left, weave}
+use Rattle.rep_log.specs.Mail.{InOne, is_uncovered, weave}
 use Rattle.rep_entry.specs.Spans.{IsFreeOutside}
 use Rattle.rep_log.specs.Origins.{ranges_in}
 use Rattle.rep_log.specs.Kept.{kept_ops}
@@ -38,7 +38,7 @@ returns-clause-row c =
     λ client entry e.
     let waiting = entry.seen.pending in
     let rs = ranges_in entry.acks in
-    let pending = ap (λ (es : List ((ℕ × ℕ) × Put)). filter (is_left rs) (weave waiting (messages es))) c.new.ensures
-    ∙ ap (filter (is_left rs)) (weave_none waiting)
+    let pending = ap (λ (es : List ((ℕ × ℕ) × Put)). filter (is_uncovered rs) (weave waiting (messages es))) c.new.ensures
+    ∙ ap (filter (is_uncovered rs)) (weave_none waiting)
     ∙ left_all rs waiting e.none_covered in
     ap (λ ps. kept_ops client entry.known ps rs) pending

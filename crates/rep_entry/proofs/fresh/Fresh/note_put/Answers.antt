@@ -5,7 +5,7 @@ use Rattle.rep_op.specs.Orders.{name_of, put_cmp}
 use Rattle.rep_op.specs.declared.op.Put.{Put}
 use Rattle.rep_model.proofs.Lookup.{or_else}
 use Rattle.rep_log.specs.Logs.{stamp_on, known_on}
-use Rattle.rep_log.specs.Mail.{covers, put_named, weave}
+use Rattle.rep_log.specs.Mail.{covers, put_by_name, weave}
 use Rattle.rep_log.specs.Origins.{ranges_in, ranges_on}
 use Rattle.rep_entry.specs.Entries.{messages}
 use Rattle.rep_entry.proofs.Rising.{find_weave}
@@ -23,11 +23,11 @@ returns-then-has c =
     let p = c.args.put.now in
     let rs = ranges_on (ranges_in e.acks) f.acks in
     let cov = list_any (covers (name_of p)) rs in
-    let same = ap (λ rs. list_any (covers (name_of p)) rs || is_some (put_named (name_of p) waiting) || is_some (find put_cmp (name_of p) es)) (ranges_same e.acks f.acks) in
-    let known : ((cov || is_some (put_named (name_of p) waiting)) || is_some (find put_cmp (name_of p) es)) ≡ true = sym (c.has.ensures fresh.entry_is.rising ∙ same) ∙ c.if-has.true in
-    let split = find_weave (name_of p) waiting (messages es) (fresh.apart (name_of p)) ∙ ap (or_else (put_named (name_of p) waiting)) (found_message (name_of p) es fresh.under) in (
+    let same = ap (λ rs. list_any (covers (name_of p)) rs || is_some (put_by_name (name_of p) waiting) || is_some (find put_cmp (name_of p) es)) (ranges_same e.acks f.acks) in
+    let known : ((cov || is_some (put_by_name (name_of p) waiting)) || is_some (find put_cmp (name_of p) es)) ≡ true = sym (c.has.ensures fresh.entry_is.rising ∙ same) ∙ c.if-has.true in
+    let split = find_weave (name_of p) waiting (messages es) (fresh.apart (name_of p)) ∙ ap (or_else (put_by_name (name_of p) waiting)) (found_message (name_of p) es fresh.under) in (
       fresh,
-      put_skipped client (known_on e.known f.log) (stamp_on e.seen.stamp f.log) fresh.folded.visible fresh.folded.none_below p rs (weave waiting (messages es)) (λ free. ap is_some split ∙ in_weave cov (put_named (name_of p) waiting) (find put_cmp (name_of p) es) known free),
+      put_skipped client (known_on e.known f.log) (stamp_on e.seen.stamp f.log) fresh.folded.visible fresh.folded.none_below p rs (weave waiting (messages es)) (λ free. ap is_some split ∙ in_weave cov (put_by_name (name_of p) waiting) (find put_cmp (name_of p) es) known free),
     )
 
 pub returns : goal.returns
@@ -41,10 +41,10 @@ returns c =
     let p = c.args.put.now in
     let rs = ranges_on (ranges_in e.acks) f.acks in
     let cov = list_any (covers (name_of p)) rs in
-    let same = ap (λ rs. list_any (covers (name_of p)) rs || is_some (put_named (name_of p) waiting) || is_some (find put_cmp (name_of p) es)) (ranges_same e.acks f.acks) in
-    let known : ((cov || is_some (put_named (name_of p) waiting)) || is_some (find put_cmp (name_of p) es)) ≡ false = sym (c.has.ensures fresh.entry_is.rising ∙ same) ∙ c.if-has.false in
-    let none = not_there cov (put_named (name_of p) waiting) (find put_cmp (name_of p) es) known in
-    let free = not_covered cov (put_named (name_of p) waiting) (find put_cmp (name_of p) es) known in
+    let same = ap (λ rs. list_any (covers (name_of p)) rs || is_some (put_by_name (name_of p) waiting) || is_some (find put_cmp (name_of p) es)) (ranges_same e.acks f.acks) in
+    let known : ((cov || is_some (put_by_name (name_of p) waiting)) || is_some (find put_cmp (name_of p) es)) ≡ false = sym (c.has.ensures fresh.entry_is.rising ∙ same) ∙ c.if-has.false in
+    let none = not_there cov (put_by_name (name_of p) waiting) (find put_cmp (name_of p) es) known in
+    let free = not_covered cov (put_by_name (name_of p) waiting) (find put_cmp (name_of p) es) known in
     let is : new ≡ place put_cmp (name_of p) p es = c.in_ok-insert.ensures ∙ ap (λ (x : Put). place put_cmp (name_of x) x es) c.in_ok-put.ensures in
     let apart = apart_more waiting es new p fresh.under fresh.apart none.0 is in (
       record {

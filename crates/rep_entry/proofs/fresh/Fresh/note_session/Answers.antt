@@ -2,7 +2,7 @@ use Rattle.std.proofs.Common.{◌≡◌, ◌∷◌, T, true, None, is_some, sym,
 use Rattle.std.specs.FinMap.{find, is_sorted}
 use Rattle.rep_op.specs.Orders.{operation_cmp}
 use Rattle.rep_shared.proofs.Found.{none_there}
-use Rattle.rep_log.specs.Logs.{Whole, IsFolded, all_of, known_on, stamp_on, whole_of, IsKeptIn}
+use Rattle.rep_log.specs.Logs.{Whole, IsFolded, all_in_log, known_on, stamp_on, whole_of, IsKeptIn}
 use Rattle.rep_log.specs.Mail.{weave}
 use Rattle.rep_log.specs.Origins.{ranges_in, ranges_on}
 use Rattle.rep_entry.specs.Entries.{messages, whole_after, base_of, left_on}
@@ -52,13 +52,13 @@ returns-in_ok-noted-in-Ok c =
     let k = c.args.name.1 in
     let x = c.args.change.now in
     let log = c.note-noted.new.self in
-    let more = all_of e.known log in
+    let more = all_in_log e.known log in
     let rs = ranges_on (ranges_in e.acks) f.acks in
     let ps = weave e.seen.pending (messages f.news) in
     let is : whole_of e.known c.in-Ok.log ≡ whole_after e f.log = c.in-Ok.ensures ∙ ap (whole_after e) c.take.ensures.value in
     let absent : find operation_cmp (s, k) es ≡ None = none_there (find operation_cmp (s, k) es) (sym c.is_known.ensures ∙ c.if-is_known.false) in
     let kept : IsKeptIn (((s, k), x) ∷ es) more log.stamp =
-    subst (λ (w : Whole). IsKeptIn (((s, k), x) ∷ w.known) more log.stamp) is (subst (λ y. IsKeptIn (((s, k), y) ∷ all_of e.known c.in-Ok.log) more log.stamp) c.in_ok-change.ensures c.in_ok-noted-in-Ok.ensures.kept) in
+    subst (λ (w : Whole). IsKeptIn (((s, k), x) ∷ w.known) more log.stamp) is (subst (λ y. IsKeptIn (((s, k), y) ∷ all_in_log e.known c.in-Ok.log) more log.stamp) c.in_ok-change.ensures c.in_ok-noted-in-Ok.ensures.kept) in
     let ordered = c.in_ok-noted-in-Ok.ensures.ordered in
     rw c.replace.ensures.after (
       record {

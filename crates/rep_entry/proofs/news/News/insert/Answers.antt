@@ -5,7 +5,7 @@ use Rattle.sn_tables.specs.inner.Tables.{IsGap}
 use Rattle.rep_op.specs.declared.op.Put.{Put}
 use Rattle.rep_op.specs.Orders.{name_of, put_cmp}
 use Rattle.rep_model.proofs.Readers.{put_total}
-use Rattle.rep_log.specs.Mail.{named_puts, put_named, Rising}
+use Rattle.rep_log.specs.Mail.{named_puts, put_by_name, Rising}
 use Rattle.rep_entry.proofs.Names.{named_at}
 use Rattle.rep_entry.proofs.Newcomers.{rising_of, with_gap}
 use Rattle.rep_entry.proofs.news.News.insert.Goals as goal
@@ -17,7 +17,7 @@ unreachable-requires c =
     let value = c.as_slice.ensures.value in
     let rising = subst Rising (sym value) (rising_of c.self.inside.puts.items c.self.invariant) in
     let found = named_at (name_of p) ps c.in-Ok.field-0 p (c.in-Ok.ensures.place rising).1 in
-    some_none (sym found ∙ ap (put_named (name_of p)) value ∙ ap (find put_cmp (name_of p)) c.self.view_is ∙ c.requires)
+    some_none (sym found ∙ ap (put_by_name (name_of p)) value ∙ ap (find put_cmp (name_of p)) c.self.view_is ∙ c.requires)
   where
     some_none : {X : Type 0} {x : X} → Some x ≡ None → ⊥
     some_none e = cc

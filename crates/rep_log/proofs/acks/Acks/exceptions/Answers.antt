@@ -1,13 +1,13 @@
 use Rattle.std.proofs.Common.{◌≡◌, ◌-◌, refl, sym, arith, ap, ◌∙◌}
 use Rattle.rep_model.specs.Limits.{above_a_gap}
 use Rattle.rep_shared.specs.Steps.{capped}
-use Rattle.rep_log.specs.Origins.{above_gaps}
+use Rattle.rep_log.specs.Origins.{origins_above_gaps}
 use Rattle.rep_log.proofs.Acknowledged.{above_more}
 use Rattle.rep_log.proofs.Greatest.{above_last}
 use Rattle.rep_log.proofs.acks.Acks.exceptions.Goals as goal
 
 pub loop-below-init : goal.loop-below-init
-unfolding above_gaps
+unfolding origins_above_gaps
 loop-below-init c = refl
 
 pub loop-below-preserved : goal.loop-below-preserved
@@ -21,4 +21,4 @@ returns c =
     let last = c.last_origin-below-end.result in
     let all = above_last c.args.self.now last (255 - last) 255 (omega (arith, c.last_origin-below-end.type_inv)) c.last_origin-below-end.ensures in
     let done : c.loop-below.below ≡ last = omega (arith, c.loop-below-test.false, c.loop-below.auto.below-end) in
-    c.loop-below.invariant ∙ ap (λ n. capped (above_gaps c.args.self.now n)) done ∙ ap capped (sym all)
+    c.loop-below.invariant ∙ ap (λ n. capped (origins_above_gaps c.args.self.now n)) done ∙ ap capped (sym all)

@@ -5,7 +5,7 @@ use Rattle.sn_session.specs.declared.change.SessionOp.{SessionOp}
 use Rattle.rep_op.specs.declared.op.Stamp.{Stamp}
 use Rattle.rep_op.specs.Orders.{operation_cmp}
 use Rattle.rep_model.specs.Keep.{is_below}
-use Rattle.rep_log.specs.Logs.{left_of}
+use Rattle.rep_log.specs.Logs.{left_in_log}
 use Rattle.rep_log.proofs.log.Log.forget_below.Goals as goal
 
 pub begin_anew-requires : goal.begin_anew-requires
@@ -22,4 +22,4 @@ returns c =
     ∙ ap (filter keeps) c.in_ok-begin_anew.ensures.more
     ∙ filter-append keeps c.from_stamp.result.now more
     ∙ ap (λ es. es ++ filter keeps more) (c.from_stamp.ensures.kept ∙ ap (filter keeps) c.left.ensures.items)
-    ∙ sym (filter-append keeps (left_of known c.args.self.now) more)
+    ∙ sym (filter-append keeps (left_in_log known c.args.self.now) more)

@@ -1,6 +1,6 @@
 use Rattle.std.proofs.Common.{Err, Ok, ap, sym, ◌∙◌, inl, inr, arith}
 use Rattle.std.proofs.lemmas.Result.{err_from_is_err_and}
-use Rattle.rep_ops.specs.Reading.{reading}
+use Rattle.rep_ops.specs.Reading.{delta_reading}
 use Rattle.rep_ops.proofs.Format.{read_spelled, spelled_again}
 use Rattle.rep_ops.proofs.Listed.{only_memory}
 use Rattle.rep_read.proofs.Laws.{ok_is}
@@ -9,7 +9,7 @@ use Rattle.rep_ops.proofs.delta.Delta.decode.Goals as goal
 pub returns-in_err-read_delta-clause-only : goal.returns-in_err-read_delta-clause-only
 returns-in_err-read_delta-clause-only c = λ d v s.
     let p = err_from_is_err_and c.from_residual.result c.from_residual.ensures.1 in
-    let memory = only_memory c.in_err-read_delta.field-0.0 d (reading c.args.bytes.now) (spelled_again c.args.bytes.now d v s) c.in_err-read_delta.ensures.reads in
+    let memory = only_memory c.in_err-read_delta.field-0.0 d (delta_reading c.args.bytes.now) (spelled_again c.args.bytes.now d v s) c.in_err-read_delta.ensures.reads in
     inr (rw (p.1, p.2) (ap (λ fault. Err fault) memory))
 
 pub invariant_of-result : goal.invariant_of-result

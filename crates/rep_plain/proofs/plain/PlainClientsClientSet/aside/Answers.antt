@@ -2,7 +2,7 @@ use Rattle.std.proofs.Common.{ℕ, ◌≤◌, List, sym, ap, subst}
 use Rattle.rep_op.specs.declared.op.Op.{Op}
 use Rattle.rep_op.specs.Orders.{AreOfClients}
 use Rattle.rep_model.specs.declared.fault.TheConstants.{MOST_CLIENTS}
-use Rattle.rep_shared.specs.Rows.{flat, moved, count_named, CanGoBack}
+use Rattle.rep_shared.specs.Rows.{flat, rows_with, count_named, CanGoBack}
 use Rattle.rep_plain.specs.Tables.{rows_of}
 use Rattle.rep_shared.proofs.Undo.{begin_back}
 use Rattle.rep_plain.proofs.plain.PlainClientsClientSet.aside.Goals as goal
@@ -14,7 +14,7 @@ returns-clause-can c =
     subst (λ (aside : List (List ℕ × List Op)). CanGoBack c.args.self.now aside) (sym (ap rows_of c.new.ensures.empty)) (begin_back c.args.self.now now)
 
 pub returns-clause-back : goal.returns-clause-back
-returns-clause-back c = ap (λ (aside : List (List ℕ × List Op)). flat (moved c.args.self.now aside)) (ap rows_of c.new.ensures.empty)
+returns-clause-back c = ap (λ (aside : List (List ℕ × List Op)). flat (rows_with c.args.self.now aside)) (ap rows_of c.new.ensures.empty)
 
 pub returns-clause-clients : goal.returns-clause-clients
 returns-clause-clients c = subst (λ (aside : List (List ℕ × List Op)). AreOfClients (flat aside)) (sym (ap rows_of c.new.ensures.empty)) tt

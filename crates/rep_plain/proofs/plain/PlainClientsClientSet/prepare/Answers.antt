@@ -4,11 +4,11 @@ use Rattle.rep_op.specs.Orders.{is_of_client, AreOfClients}
 use Rattle.rep_model.specs.Taking.{AllAgree, Fits}
 use Rattle.rep_model.specs.Limits.{first_passed}
 use Rattle.rep_model.specs.Keep.{IsKeptOf}
-use Rattle.rep_shared.specs.Rows.{flat, moved, CanGoBack}
+use Rattle.rep_shared.specs.Rows.{flat, rows_with, CanGoBack}
 use Rattle.rep_shared.specs.inner.Rows.{count_new}
 use Rattle.rep_plain.specs.inner.Rows.{IsGrown}
 use Rattle.rep_plain.specs.Tables.{rows_of, HaveRoom}
-use Rattle.rep_plain.specs.inner.Tables.{is_known, passed_by}
+use Rattle.rep_plain.specs.inner.Tables.{is_op_there, passed_by}
 use Rattle.rep_shared.proofs.Flat.{rows_moved, all_filter}
 use Rattle.rep_shared.proofs.Kept.{rows_of_clients}
 use Rattle.rep_plain.proofs.Found.{table_rows}
@@ -23,7 +23,7 @@ news-requires-clause-rows c = table_rows c.self.inside.table.entries c.self.insi
 pub grown-requires : goal.grown-requires
 grown-requires c =
     let K = flat (rows_of c.self.inside.table.entries) in
-    subst AreOfClients (sym c.in_ok-news.ensures.news) (all_filter (λ op. is_of_client op ≡ true) (λ op. not (is_known K op)) c.args.ops.now c.requires.clients)
+    subst AreOfClients (sym c.in_ok-news.ensures.news) (all_filter (λ op. is_of_client op ≡ true) (λ op. not (is_op_there K op)) c.args.ops.now c.requires.clients)
 
 pub returns-in-Some-clause-fault : goal.returns-in-Some-clause-fault
 returns-in-Some-clause-fault c =
@@ -120,7 +120,7 @@ returns-clause-taken c =
     let worked = c.in_ok-fresh.ensures.worked_out in
     let room = c.make_room.new.table.entries in
     let r = c.in_ok-make_room.ensures.roomier in
-    let after = flat (moved (rows_of room) (rows_of fs)) in
+    let after = flat (rows_with (rows_of room) (rows_of fs)) in
     subst (λ K. IsKeptOf (K ++ D) after) (ap flat c.self.view_is) (kept_same after (K ++ D) (same_after es n t D c.requires.made c.requires.clients N news fs g sorted worked room r))
 
 pub returns-clause-clients : goal.returns-clause-clients
@@ -136,7 +136,7 @@ returns-clause-clients c =
     let fresh = are_fresh es n t D c.requires.made c.requires.clients N news fs g c.in_ok-fresh.ensures.sorted c.in_ok-fresh.ensures.worked_out in
     let room = c.make_room.new.table.entries in
     let r = c.in_ok-make_room.ensures.roomier in
-    let after = moved (rows_of room) (rows_of fs) in
+    let after = rows_with (rows_of room) (rows_of fs) in
     rows_of_clients after (rows_moved (rows_of room) (rows_of fs) (table_rows room n (r.table n t)) fresh.owned).owned
 
 -- nothing is changed yet
@@ -156,11 +156,11 @@ returns-in-Some-clause-aside c = rw (← c.self.view_is) (λ aside can. (can, re
 pub returns-in_err-make_room-clause-aside : goal.returns-in_err-make_room-clause-aside
 returns-in_err-make_room-clause-aside c =
     let room = rows_of c.make_room.new.table.entries in
-    λ aside can. subst (λ (rows : List (List ℕ × List Op)). CanGoBack rows aside → CanGoBack room aside × (flat (moved room aside) ≡ flat (moved rows aside))) c.self.view_is
+    λ aside can. subst (λ (rows : List (List ℕ × List Op)). CanGoBack rows aside → CanGoBack room aside × (flat (rows_with room aside) ≡ flat (rows_with rows aside))) c.self.view_is
     (c.in_err-make_room.ensures.roomier.back c.self.inside.named c.self.invariant aside) can
 
 pub returns-clause-aside : goal.returns-clause-aside
 returns-clause-aside c =
     let room = rows_of c.make_room.new.table.entries in
-    λ aside can. subst (λ (rows : List (List ℕ × List Op)). CanGoBack rows aside → CanGoBack room aside × (flat (moved room aside) ≡ flat (moved rows aside))) c.self.view_is
+    λ aside can. subst (λ (rows : List (List ℕ × List Op)). CanGoBack rows aside → CanGoBack room aside × (flat (rows_with room aside) ≡ flat (rows_with rows aside))) c.self.view_is
     (c.in_ok-make_room.ensures.roomier.back c.self.inside.named c.self.invariant aside) can

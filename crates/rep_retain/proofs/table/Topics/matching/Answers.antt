@@ -3,13 +3,13 @@ use Rattle.sn_tables.specs.Tables.{is_ascending}
 use Rattle.sn_tables.proofs.Ascending.{from_test}
 use Rattle.rep_op.specs.declared.op.Retained.{Retained}
 use Rattle.rep_model.specs.Topics.{is_offered, retained_matching}
-use Rattle.rep_retain.specs.Tables.{IsTable, entry_cmp, ops_of}
+use Rattle.rep_retain.specs.Tables.{IsTopicTable, entry_cmp, ops_of}
 use Rattle.rep_retain.proofs.Found.{entry_total}
 use Rattle.rep_retain.proofs.Ready.{lists_table}
 use Rattle.rep_retain.proofs.table.Topics.matching.Goals as goal
 
 -- of the slice that is read, and of the set that the table stands for, the same is offered
-listed : (asked : List ℕ) (read es now : List (List ℕ × Retained)) → IsTable es → read ≡ es → es ≡ now → filter (is_offered asked) read ≡ retained_matching asked (ops_of now)
+listed : (asked : List ℕ) (read es now : List (List ℕ × Retained)) → IsTopicTable es → read ≡ es → es ≡ now → filter (is_offered asked) read ≡ retained_matching asked (ops_of now)
 listed asked read es now table is seen =
     ap (filter (is_offered asked)) (is ∙ sym (lists_table es (from_test entry_cmp entry_total es table.ascending)))
     ∙ ap (λ es. retained_matching asked (ops_of es)) seen

@@ -5,7 +5,7 @@ use Rattle.rep_op.specs.declared.op.Retained.{Retained}
 use Rattle.rep_op.specs.declared.op.Op.{Op}
 use Rattle.rep_model.specs.Keep.{IsKeptOf}
 use Rattle.rep_retain.specs.declared.staged.TopicsStaged.{TopicsStaged}
-use Rattle.rep_retain.specs.Tables.{IsTable, entry_cmp, ops_of}
+use Rattle.rep_retain.specs.Tables.{IsTopicTable, entry_cmp, ops_of}
 use Rattle.rep_retain.specs.inner.Tables.{with_ops}
 use Rattle.rep_retain.specs.inner.Steps.{IsStagedOf}
 use Rattle.rep_retain.proofs.Found.{entry_total}
@@ -25,7 +25,7 @@ pub returns-then-is_empty-clause-few : goal.returns-then-is_empty-clause-few
 returns-then-is_empty-clause-few c =
     let es = c.args.self.now in
     let ops = c.args.ops.now in
-    let table : IsTable es = subst IsTable c.self.view_is c.self.invariant in
+    let table : IsTopicTable es = subst IsTopicTable c.self.view_is c.self.invariant in
     let same = same_without es ops (no_ops ops (sym c.is_empty.ensures ∙ c.if-is_empty.true)) in
     few_ops es ops (from_test entry_cmp entry_total es table.ascending) (subst (λ xs. length xs ≤ 4096) (sym same) table.few)
 
@@ -33,24 +33,24 @@ pub returns-then-is_empty-clause-kept : goal.returns-then-is_empty-clause-kept
 returns-then-is_empty-clause-kept c =
     let es = c.args.self.now in
     let ops = c.args.ops.now in
-    let table : IsTable es = subst IsTable c.self.view_is c.self.invariant in
+    let table : IsTopicTable es = subst IsTopicTable c.self.view_is c.self.invariant in
     let same = same_without es ops (no_ops ops (sym c.is_empty.ensures ∙ c.if-is_empty.true)) in
     subst (λ xs. IsKeptOf (ops_of es ++ ops) (ops_of xs)) same (kept_of es ops (from_test entry_cmp entry_total es table.ascending) c.requires.topics)
 
 pub returns-in-Some-clause-few : goal.returns-in-Some-clause-few
 returns-in-Some-clause-few c =
-    let table : IsTable c.args.self.now = subst IsTable c.self.view_is c.self.invariant in
+    let table : IsTopicTable c.args.self.now = subst IsTopicTable c.self.view_is c.self.invariant in
     let s = told c.as_slice.result.now c.args.self.now c.args.ops.now c.in_ok-found.found c.in-Some.staged (c.as_slice.ensures.value ∙ c.self.view_is) c.in-Some.is c.in_ok-found.ensures in
     staged_few c.args.self.now c.args.ops.now table c.in-Some.staged s
 
 pub returns-in-Some-clause-kept : goal.returns-in-Some-clause-kept
 returns-in-Some-clause-kept c =
-    let table : IsTable c.args.self.now = subst IsTable c.self.view_is c.self.invariant in
+    let table : IsTopicTable c.args.self.now = subst IsTopicTable c.self.view_is c.self.invariant in
     let s = told c.as_slice.result.now c.args.self.now c.args.ops.now c.in_ok-found.found c.in-Some.staged (c.as_slice.ensures.value ∙ c.self.view_is) c.in-Some.is c.in_ok-found.ensures in
     staged_kept c.args.self.now c.args.ops.now table c.in-Some.staged s c.requires.topics
 
 pub returns-in-Some-clause-ready : goal.returns-in-Some-clause-ready
 returns-in-Some-clause-ready c =
-    let table : IsTable c.args.self.now = subst IsTable c.self.view_is c.self.invariant in
+    let table : IsTopicTable c.args.self.now = subst IsTopicTable c.self.view_is c.self.invariant in
     let s = told c.as_slice.result.now c.args.self.now c.args.ops.now c.in_ok-found.found c.in-Some.staged (c.as_slice.ensures.value ∙ c.self.view_is) c.in-Some.is c.in_ok-found.ensures in
     staged_ready c.args.self.now c.args.ops.now table c.in-Some.staged s c.requires.made

@@ -6,7 +6,7 @@ use Rattle.rep_model.specs.Taking.{Fits, IsFaultOf}
 use Rattle.rep_model.proofs.Beside.{fault_front, fits_both, taken_both}
 use Rattle.rep_retain.proofs.Refusing.{made_parts, refused_by_topics, refused_by_room}
 use Rattle.rep_retain.specs.Tables.{ops_of}
-use Rattle.rep_retain.specs.Staging.{moved}
+use Rattle.rep_retain.specs.Staging.{topics_moved}
 use Rattle.rep_retain.proofs.Found.{are_of_topics}
 use Rattle.rep_op.specs.declared.op.Op.{Op}
 use Rattle.rep_retain.specs.Asides.{topics_back}
@@ -67,7 +67,7 @@ returns-in-Ok-clause-taken g c =
     let T = ops_of w.topics in
     let C = c.parts.result.0.now in
     let R = c.parts.result.1.now in
-    let next = moved w.topics c.in-Ok.topics in
+    let next = topics_moved w.topics c.in-Ok.topics in
     let B = g.C.ClientSet.after c.prepare.new.self c.in_ok-clients.clients in
     subst (λ D. IsKeptOf ((A ++ T) ++ D) (B ++ ops_of next)) (sym c.parts.ensures.parts)
     (taken_both A T C R w.own (are_of_topics w.topics) c.parts.ensures.clients c.parts.ensures.topics B (ops_of next) c.in_ok-clients.ensures.clients (are_of_topics next) c.in_ok-clients.ensures.taken c.in-Ok.ensures.kept)

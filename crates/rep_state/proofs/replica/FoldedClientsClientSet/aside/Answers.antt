@@ -2,7 +2,7 @@ use Rattle.std.proofs.Common.{ℕ, ◌≤◌, List, sym, ap, subst, Vec, Global}
 use Rattle.rep_op.specs.declared.op.Op.{Op}
 use Rattle.rep_op.specs.Orders.{AreOfClients}
 use Rattle.rep_model.specs.declared.fault.TheConstants.{MOST_CLIENTS}
-use Rattle.rep_shared.specs.Rows.{flat, moved, count_named, CanGoBack}
+use Rattle.rep_shared.specs.Rows.{flat, rows_with, count_named, CanGoBack}
 use Rattle.rep_entry.specs.declared.entry.Entry.{Entry}
 use Rattle.rep_state.specs.Tables.{by_client, rows_of}
 use Rattle.rep_shared.proofs.Undo.{begin_back}
@@ -18,7 +18,7 @@ returns-clause-can c =
     subst (λ (aside : List (List ℕ × List Op)). CanGoBack c.args.self.now aside) (sym (ap shown c.new.ensures.empty)) (begin_back c.args.self.now now)
 
 pub returns-clause-back : goal.returns-clause-back
-returns-clause-back c = ap (λ (es : List (Vec ℕ Global × Entry)). flat (moved c.args.self.now (shown es))) c.new.ensures.empty
+returns-clause-back c = ap (λ (es : List (Vec ℕ Global × Entry)). flat (rows_with c.args.self.now (shown es))) c.new.ensures.empty
 
 pub returns-clause-clients : goal.returns-clause-clients
 returns-clause-clients c = subst (λ (es : List (Vec ℕ Global × Entry)). AreOfClients (flat (shown es))) (sym c.new.ensures.empty) tt

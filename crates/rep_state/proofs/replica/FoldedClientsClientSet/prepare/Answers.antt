@@ -4,13 +4,13 @@ use Rattle.rep_op.specs.Orders.{AreOfClients}
 use Rattle.rep_model.specs.Taking.{AllAgree, Fits}
 use Rattle.rep_model.specs.Limits.{first_passed}
 use Rattle.rep_model.specs.Keep.{IsKeptOf}
-use Rattle.rep_shared.specs.Rows.{flat, own, has_any, moved, count_named, CanGoBack}
+use Rattle.rep_shared.specs.Rows.{flat, own, has_any, rows_with, count_named, CanGoBack}
 use Rattle.rep_shared.specs.inner.Rows.{count_new}
 use Rattle.rep_state.specs.Tables.{by_client, rows_of}
 use Rattle.rep_state.specs.inner.Tables.{passed_by}
 use Rattle.rep_state.specs.inner.Groups.{AreGroups}
-use Rattle.rep_entry.specs.Staging.{staged_of, planned}
-use Rattle.rep_state.specs.inner.Staging.{future, HaveRoom, AreWorkedOut}
+use Rattle.rep_entry.specs.Staging.{staged_of, planned_rows}
+use Rattle.rep_state.specs.inner.Staging.{future, HavePlaces, AreChangesWorkedOut}
 use Rattle.rep_shared.proofs.Flat.{rows_moved}
 use Rattle.rep_shared.proofs.Kept.{rows_of_clients}
 use Rattle.rep_state.proofs.Rows.{table_rows}
@@ -44,7 +44,7 @@ returns-in-Some-clause-fault c =
     let new = c.count_new.ensures ∙ count_future (λ q. not (has_any (own q (rows_of es)))) es c.as_slice.result.now ∙ ap (λ xs. count_new (rows_of es) (rows_of (future es (staged_of xs)))) c.as_slice.ensures.value in
     let m = n + c.count_new.result in
     let passed : passed_by m fs ≡ first_passed (K ++ D) = first_passed_both es n t D fs fresh rows m (ap (λ k. n + k) new) (roomier_itself es) in
-    let out-2 = subst (λ xs. AreWorkedOut es (staged_of xs)) (sym c.as_slice-2.ensures.value) out in
+    let out-2 = subst (λ xs. AreChangesWorkedOut es (staged_of xs)) (sym c.as_slice-2.ensures.value) out in
     let found = c.passed.ensures ∙ passed_future m es c.as_slice-2.result.now out-2 ∙ ap (λ xs. passed_by m (future es (staged_of xs))) c.as_slice-2.ensures.value in
     let agree : AllAgree K D = c.in_ok-check.ensures.agree in
     subst (λ K. AllAgree K D × (first_passed (K ++ D) ≡ Some c.in-Some.limit)) (ap flat c.self.view_is) (agree, sym passed ∙ sym found ∙ c.in-Some.is)
@@ -70,7 +70,7 @@ invariant_of-result c =
     let new = c.count_new.ensures ∙ count_future (λ q. not (has_any (own q (rows_of es)))) es c.as_slice.result.now ∙ ap (λ xs. count_new (rows_of es) (rows_of (future es (staged_of xs)))) c.as_slice.ensures.value in
     let m = n + c.count_new.result in
     let passed : passed_by m fs ≡ first_passed (K ++ D) = first_passed_both es n t D fs fresh rows m (ap (λ k. n + k) new) (roomier_itself es) in
-    let out-2 = subst (λ xs. AreWorkedOut es (staged_of xs)) (sym c.as_slice-2.ensures.value) out in
+    let out-2 = subst (λ xs. AreChangesWorkedOut es (staged_of xs)) (sym c.as_slice-2.ensures.value) out in
     let found = c.passed.ensures ∙ passed_future m es c.as_slice-2.result.now out-2 ∙ ap (λ xs. passed_by m (future es (staged_of xs))) c.as_slice-2.ensures.value in
     let fit = fresh_fit m fs worked (sym found ∙ c.in_default.is) in
     (are_staged es gs out fresh.sorted fit.0, fit.1)
@@ -96,7 +96,7 @@ returns-clause-fits c =
     let new = c.count_new.ensures ∙ count_future (λ q. not (has_any (own q (rows_of es)))) es c.as_slice.result.now ∙ ap (λ xs. count_new (rows_of es) (rows_of (future es (staged_of xs)))) c.as_slice.ensures.value in
     let m = n + c.count_new.result in
     let passed : passed_by m fs ≡ first_passed (K ++ D) = first_passed_both es n t D fs fresh rows m (ap (λ k. n + k) new) (roomier_itself es) in
-    let out-2 = subst (λ xs. AreWorkedOut es (staged_of xs)) (sym c.as_slice-2.ensures.value) out in
+    let out-2 = subst (λ xs. AreChangesWorkedOut es (staged_of xs)) (sym c.as_slice-2.ensures.value) out in
     let found = c.passed.ensures ∙ passed_future m es c.as_slice-2.result.now out-2 ∙ ap (λ xs. passed_by m (future es (staged_of xs))) c.as_slice-2.ensures.value in
     let agree : AllAgree K D = c.in_ok-check.ensures.agree in
     subst (λ K. Fits K D) (ap flat c.self.view_is) (record { agrees = agree; within = sym passed ∙ sym found ∙ c.in_default.is })
@@ -122,15 +122,15 @@ returns-clause-ready c =
     let new = c.count_new.ensures ∙ count_future (λ q. not (has_any (own q (rows_of es)))) es c.as_slice.result.now ∙ ap (λ xs. count_new (rows_of es) (rows_of (future es (staged_of xs)))) c.as_slice.ensures.value in
     let m = n + c.count_new.result in
     let passed : passed_by m fs ≡ first_passed (K ++ D) = first_passed_both es n t D fs fresh rows m (ap (λ k. n + k) new) (roomier_itself es) in
-    let out-2 = subst (λ xs. AreWorkedOut es (staged_of xs)) (sym c.as_slice-2.ensures.value) out in
+    let out-2 = subst (λ xs. AreChangesWorkedOut es (staged_of xs)) (sym c.as_slice-2.ensures.value) out in
     let found = c.passed.ensures ∙ passed_future m es c.as_slice-2.result.now out-2 ∙ ap (λ xs. passed_by m (future es (staged_of xs))) c.as_slice-2.ensures.value in
     let fit = fresh_fit m fs worked (sym found ∙ c.in_default.is) in
     let room = by_client c.make_room.new.table.entries in
     let r = c.in_ok-make_room.ensures.roomier in
     let same = own_room es n t D fs fresh rows room r in
-    let places = subst (λ xs. HaveRoom room (staged_of xs)) c.as_slice-3.ensures.value c.in_ok-make_room.ensures.room in (
+    let places = subst (λ xs. HavePlaces room (staged_of xs)) c.as_slice-3.ensures.value c.in_ok-make_room.ensures.room in (
       are_ready es room gs same places out fit.0,
-      counted_after es n t D fs fresh rows room r m (ap (λ k. n + k) new) ∙ ap (λ rs. count_named (moved (rows_of room) rs)) (sym (planned_future (rows_of room) es same gs)),
+      counted_after es n t D fs fresh rows room r m (ap (λ k. n + k) new) ∙ ap (λ rs. count_named (rows_with (rows_of room) rs)) (sym (planned_future (rows_of room) es same gs)),
     )
 
 pub returns-clause-taken : goal.returns-clause-taken
@@ -156,8 +156,8 @@ returns-clause-taken c =
     let room = by_client c.make_room.new.table.entries in
     let r = c.in_ok-make_room.ensures.roomier in
     let is-planned = planned_future (rows_of room) es (own_room es n t D fs fresh rows room r) gs in
-    subst (λ K. IsKeptOf (K ++ D) (flat (moved (rows_of room) (planned (rows_of room) gs)))) (ap flat c.self.view_is)
-    (subst (λ rs. IsKeptOf (K ++ D) (flat (moved (rows_of room) rs))) (sym is-planned) (kept_after es n t D fs fresh rows room r))
+    subst (λ K. IsKeptOf (K ++ D) (flat (rows_with (rows_of room) (planned_rows (rows_of room) gs)))) (ap flat c.self.view_is)
+    (subst (λ rs. IsKeptOf (K ++ D) (flat (rows_with (rows_of room) rs))) (sym is-planned) (kept_after es n t D fs fresh rows room r))
 
 pub returns-clause-clients : goal.returns-clause-clients
 returns-clause-clients c =
@@ -179,8 +179,8 @@ returns-clause-clients c =
     let room = by_client c.make_room.new.table.entries in
     let r = c.in_ok-make_room.ensures.roomier in
     let is-planned = planned_future (rows_of room) es (own_room es n t D fs fresh rows room r) gs in
-    let after = moved (rows_of room) (rows_of fs) in
-    subst (λ rs. AreOfClients (flat (moved (rows_of room) rs))) (sym is-planned) (rows_of_clients after (rows_moved (rows_of room) (rows_of fs) (table_rows room n (r.table n t)) fresh.owned).owned)
+    let after = rows_with (rows_of room) (rows_of fs) in
+    subst (λ rs. AreOfClients (flat (rows_with (rows_of room) rs))) (sym is-planned) (rows_of_clients after (rows_moved (rows_of room) (rows_of fs) (table_rows room n (r.table n t)) fresh.owned).owned)
 
 -- nothing is changed yet
 pub returns-in_err-check-clause-aside : goal.returns-in_err-check-clause-aside
@@ -199,11 +199,11 @@ returns-in-Some-clause-aside c = rw (← c.self.view_is) (λ aside can. (can, re
 pub returns-in_err-make_room-clause-aside : goal.returns-in_err-make_room-clause-aside
 returns-in_err-make_room-clause-aside c =
     let room = rows_of (by_client c.make_room.new.table.entries) in
-    λ aside can. subst (λ (rows : List (List ℕ × List Op)). CanGoBack rows aside → CanGoBack room aside × (flat (moved room aside) ≡ flat (moved rows aside))) c.self.view_is
+    λ aside can. subst (λ (rows : List (List ℕ × List Op)). CanGoBack rows aside → CanGoBack room aside × (flat (rows_with room aside) ≡ flat (rows_with rows aside))) c.self.view_is
     (c.in_err-make_room.ensures.roomier.back c.self.inside.named c.self.invariant.0 aside) can
 
 pub returns-clause-aside : goal.returns-clause-aside
 returns-clause-aside c =
     let room = rows_of (by_client c.make_room.new.table.entries) in
-    λ aside can. subst (λ (rows : List (List ℕ × List Op)). CanGoBack rows aside → CanGoBack room aside × (flat (moved room aside) ≡ flat (moved rows aside))) c.self.view_is
+    λ aside can. subst (λ (rows : List (List ℕ × List Op)). CanGoBack rows aside → CanGoBack room aside × (flat (rows_with room aside) ≡ flat (rows_with rows aside))) c.self.view_is
     (c.in_ok-make_room.ensures.roomier.back c.self.inside.named c.self.invariant.0 aside) can

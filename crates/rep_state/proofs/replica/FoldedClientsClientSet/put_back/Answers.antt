@@ -2,7 +2,7 @@ use Rattle.std.proofs.Common.{◌≡◌, ℕ, ◌≤◌, List, sym, ap, subst, �
 use Rattle.rep_op.specs.declared.op.Op.{Op}
 use Rattle.rep_op.specs.Orders.{AreOfClients}
 use Rattle.rep_model.specs.declared.fault.TheConstants.{MOST_CLIENTS}
-use Rattle.rep_shared.specs.Rows.{flat, moved, count_named, AreSaved}
+use Rattle.rep_shared.specs.Rows.{flat, rows_with, count_named, AreSaved}
 use Rattle.rep_state.specs.Tables.{by_client, rows_of, ArePlaces}
 use Rattle.rep_shared.proofs.Kept.{rows_of_clients}
 use Rattle.rep_shared.proofs.Flat.{rows_moved}
@@ -40,12 +40,12 @@ count_all-self-inside-requires-clause-places c = subst (ArePlaces c.put_all_back
 
 pub count_all-self-inside-requires-clause-few : goal.count_all-self-inside-requires-clause-few
 count_all-self-inside-requires-clause-few c =
-    let all : rows_of (by_client c.put_all_back.new.table.entries) ≡ moved c.args.self.now c.args.aside = c.put_all_back.ensures.rows ∙ (λ i. moved (c.self.view_is i) (c.aside.view_is i)) in
+    let all : rows_of (by_client c.put_all_back.new.table.entries) ≡ rows_with c.args.self.now c.args.aside = c.put_all_back.ensures.rows ∙ (λ i. rows_with (c.self.view_is i) (c.aside.view_is i)) in
     subst (λ (rows : Rows). count_named rows ≤ MOST_CLIENTS) (sym all) c.requires.few
 
 pub invariant_of-self : goal.invariant_of-self
 invariant_of-self c =
-    let all : rows_of (by_client c.put_all_back.new.table.entries) ≡ moved c.args.self.now c.args.aside = c.put_all_back.ensures.rows ∙ (λ i. moved (c.self.view_is i) (c.aside.view_is i)) in
+    let all : rows_of (by_client c.put_all_back.new.table.entries) ≡ rows_with c.args.self.now c.args.aside = c.put_all_back.ensures.rows ∙ (λ i. rows_with (c.self.view_is i) (c.aside.view_is i)) in
     let few : count_named (rows_of (by_client c.put_all_back.new.table.entries)) ≤ MOST_CLIENTS = subst (λ (rows : Rows). count_named rows ≤ MOST_CLIENTS) (sym all) c.requires.few in (
       record {
         sorted = in_order c.put_all_back.new.table.entries;
@@ -58,7 +58,7 @@ invariant_of-self c =
     )
 
 pub returns-clause-kept : goal.returns-clause-kept
-returns-clause-kept c = ap flat (c.put_all_back.ensures.rows ∙ (λ i. moved (c.self.view_is i) (c.aside.view_is i)))
+returns-clause-kept c = ap flat (c.put_all_back.ensures.rows ∙ (λ i. rows_with (c.self.view_is i) (c.aside.view_is i)))
 
 pub returns-clause-clients : goal.returns-clause-clients
 returns-clause-clients c =
@@ -66,4 +66,4 @@ returns-clause-clients c =
     let xs = by_client c.aside.inside.table.entries in
     let owned = (table_rows xs c.aside.inside.named c.aside.invariant.0).owned in
     let rows = rows_moved (rows_of es) (rows_of xs) (table_rows es c.self.inside.named c.self.invariant.0) owned in
-    subst (λ (rs : Rows). AreOfClients (flat rs)) (sym c.put_all_back.ensures.rows) (rows_of_clients (moved (rows_of es) (rows_of xs)) rows.owned)
+    subst (λ (rs : Rows). AreOfClients (flat rs)) (sym c.put_all_back.ensures.rows) (rows_of_clients (rows_with (rows_of es) (rows_of xs)) rows.owned)

@@ -4,7 +4,7 @@ use Rattle.rep_entry.specs.declared.change.Change.{Change}
 use Rattle.rep_entry.specs.Staging.{staged_of, AreReady}
 use Rattle.rep_shared.specs.Rows.{AreSaved, CanGoBack}
 use Rattle.rep_state.specs.Tables.{by_client, rows_of}
-use Rattle.rep_state.specs.inner.Staging.{HaveRoom}
+use Rattle.rep_state.specs.inner.Staging.{HavePlaces}
 use Rattle.rep_shared.proofs.Kept.{rows_of_clients}
 use Rattle.rep_state.proofs.Rows.{table_rows}
 use Rattle.rep_state.proofs.Backs.{ready_room, saving_can, saving_same}
@@ -21,7 +21,7 @@ save_all-requires-clause-room c =
     let es = by_client c.self.inside.table.entries in
     let staged = subst (λ (s : List (List ℕ × Change) × ℕ). AreReady c.args.self.now s.0) (sym c.staged.view_is) c.requires.ready.0 in
     let here = subst (λ (rows : Rows). AreReady rows (staged_of c.staged.inside.changes.items)) (sym c.self.view_is) staged in
-    subst (λ (gs : List (Vec ℕ Global × Change)). HaveRoom es (staged_of gs)) (sym c.as_slice.ensures.value) (ready_room es (staged_of c.staged.inside.changes.items) here)
+    subst (λ (gs : List (Vec ℕ Global × Change)). HavePlaces es (staged_of gs)) (sym c.as_slice.ensures.value) (ready_room es (staged_of c.staged.inside.changes.items) here)
 
 pub save_all-requires-clause-aside : goal.save_all-requires-clause-aside
 save_all-requires-clause-aside c = c.aside.invariant.0

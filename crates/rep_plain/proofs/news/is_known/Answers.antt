@@ -1,7 +1,0 @@
-use Rattle.std.proofs.Common.{is_some, sym, ap, ◌∙◌}
-use Rattle.rep_plain.specs.inner.Tables.{is_known}
-use Rattle.rep_plain.proofs.Found.{is_some_copied}
-use Rattle.rep_plain.proofs.news.is_known.Goals as goal
-
-pub returns-in-Session : goal.returns-in-Session
-returns-in-Session c = c.is_some.ensures ∙ is_some_copied c.operation_at.result ∙ ap is_some c.operation_at.ensures ∙ ap (is_known c.args.ops.now) (sym c.in-Session.is)
