@@ -16,7 +16,6 @@ pub enum Why {
 }
 
 /// What is to be done, in the order of the list.
-#[derive(Drop)]
 pub enum Action {
     /// A frame to the gateway of a lane.
     ToField {
@@ -60,4 +59,26 @@ pub enum Action {
     Dial,
     /// End the connection to the broker.
     HangUp,
+}
+
+impl Drop for Action {
+    fn drop(self) {
+        match self {
+            Action::ToField { lane: _, frame } => drop(frame),
+            Action::ToCommands { frame } => drop(frame),
+            Action::ToBroker { packet } => drop(packet),
+            Action::Reading { number: _, packet } => drop(packet),
+            Action::Refuse {
+                line: _,
+                command,
+                why: _,
+            } => drop(command),
+            Action::Store { item } => drop(item),
+            Action::Forget { number: _ } => {}
+            Action::NextGateway { lane: _ } => {}
+            Action::NextCommands => {}
+            Action::Dial => {}
+            Action::HangUp => {}
+        }
+    }
 }

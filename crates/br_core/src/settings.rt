@@ -4,7 +4,6 @@ use mq_packet::{Login, Qos, Will};
 use octets::{Octets, Sequence};
 
 /// A name of the field that a lane subscribes to, and the broker's topic of its messages.
-#[derive(Drop)]
 pub struct UpName {
     /// The field's topic. One of two octets is a short name, which takes no topic id.
     pub name: Octets,
@@ -16,8 +15,20 @@ pub struct UpName {
     pub retain: bool,
 }
 
+impl Drop for UpName {
+    fn drop(self) {
+        let UpName {
+            name,
+            topic,
+            qos: _,
+            retain: _,
+        } = self;
+        drop(name);
+        drop(topic);
+    }
+}
+
 /// A lane: a client of the field that takes readings.
-#[derive(Drop)]
 pub struct LaneSettings {
     /// Its client id.
     pub client: Octets,
@@ -25,8 +36,15 @@ pub struct LaneSettings {
     pub names: Sequence<UpName>,
 }
 
+impl Drop for LaneSettings {
+    fn drop(self) {
+        let LaneSettings { client, names } = self;
+        drop(client);
+        drop(names);
+    }
+}
+
 /// A filter of the broker whose messages are commands for the field.
-#[derive(Drop)]
 pub struct DownFilter {
     /// What is subscribed to at the broker.
     pub filter: Octets,
@@ -36,8 +54,19 @@ pub struct DownFilter {
     pub retained: bool,
 }
 
+impl Drop for DownFilter {
+    fn drop(self) {
+        let DownFilter {
+            filter,
+            strip,
+            retained: _,
+        } = self;
+        drop(filter);
+        drop(strip);
+    }
+}
+
 /// What a bridge is asked to carry.
-#[derive(Drop)]
 pub struct Settings {
     /// The lanes for readings.
     pub lanes: Sequence<LaneSettings>,
@@ -61,4 +90,30 @@ pub struct Settings {
     pub room: usize,
     /// Whether readings of quality of service 1 go into a spool.
     pub spools: bool,
+}
+
+impl Drop for Settings {
+    fn drop(self) {
+        let Settings {
+            lanes,
+            commands,
+            downs,
+            client,
+            will,
+            login,
+            state,
+            here,
+            window: _,
+            room: _,
+            spools: _,
+        } = self;
+        drop(lanes);
+        drop(commands);
+        drop(downs);
+        drop(client);
+        drop(will);
+        drop(login);
+        drop(state);
+        drop(here);
+    }
 }

@@ -103,7 +103,6 @@ pub struct Named {
 }
 
 /// The last message of quality of service 1 that a lane has brought since its last CONNECT.
-#[derive(Drop)]
 pub struct Open {
     /// The number of its reading.
     pub number: u64,
@@ -117,6 +116,20 @@ pub struct Open {
     pub body: Octets,
     /// Whether it may be acknowledged: the broker has acknowledged the reading.
     pub is_answered: bool,
+}
+
+impl Drop for Open {
+    fn drop(self) {
+        let Open {
+            number: _,
+            name: _,
+            topic_id: _,
+            msg_id: _,
+            body,
+            is_answered: _,
+        } = self;
+        drop(body);
+    }
 }
 
 impl Open {
@@ -136,7 +149,6 @@ impl Open {
 }
 
 /// A lane. Its client and its names are in the settings.
-#[derive(Drop)]
 pub struct Lane {
     /// How far its connection is.
     pub phase: Phase,
@@ -150,6 +162,21 @@ pub struct Lane {
     pub ids: Sequence<Named>,
     /// The last message of quality of service 1.
     pub last: Option<Open>,
+}
+
+impl Drop for Lane {
+    fn drop(self) {
+        let Lane {
+            phase: _,
+            tries: _,
+            due: _,
+            msg_id: _,
+            ids,
+            last,
+        } = self;
+        drop(ids);
+        drop(last);
+    }
 }
 
 impl Lane {
@@ -189,12 +216,18 @@ impl Lane {
 }
 
 /// A topic of the field, and the id that the gateway gave for it.
-#[derive(Drop)]
 pub struct NamedTopic {
     /// The topic id.
     pub id: u16,
     /// The topic.
     pub topic: Octets,
+}
+
+impl Drop for NamedTopic {
+    fn drop(self) {
+        let NamedTopic { id: _, topic } = self;
+        drop(topic);
+    }
 }
 
 /// What is done with the first command.
@@ -211,7 +244,6 @@ pub enum Doing {
 }
 
 /// The lane for commands. It has no subscription.
-#[derive(Drop)]
 pub struct Down {
     /// How far its connection is.
     pub phase: Phase,
@@ -234,6 +266,24 @@ pub struct Down {
     pub is_behind: bool,
 }
 
+impl Drop for Down {
+    fn drop(self) {
+        let Down {
+            phase: _,
+            tries: _,
+            due: _,
+            msg_id: _,
+            ids,
+            doing: _,
+            line: _,
+            queue,
+            is_behind: _,
+        } = self;
+        drop(ids);
+        drop(queue);
+    }
+}
+
 /// How far the connection to the broker is.
 #[derive(Clone, Copy, PartialEq, Eq)]
 pub enum Side {
@@ -248,7 +298,6 @@ pub enum Side {
 }
 
 /// What a bridge knows.
-#[derive(Drop)]
 pub struct Bridge {
     /// The lanes for readings.
     pub lanes: Sequence<Lane>,
@@ -275,4 +324,29 @@ pub struct Bridge {
     pub packet_id: u16,
     /// What is to be done, in its order. `step` begins with an empty list.
     pub out: Sequence<Action>,
+}
+
+impl Drop for Bridge {
+    fn drop(self) {
+        let Bridge {
+            lanes,
+            down,
+            side,
+            due: _,
+            tries: _,
+            is_subscribed: _,
+            is_storing: _,
+            waiting,
+            flight,
+            number: _,
+            packet_id: _,
+            out,
+        } = self;
+        drop(lanes);
+        drop(down);
+        drop(side);
+        drop(waiting);
+        drop(flight);
+        drop(out);
+    }
 }

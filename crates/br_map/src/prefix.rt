@@ -19,9 +19,15 @@ pub const MAX_PREFIX: usize = 1_024;
 /// The begin of a broker's topics: at most 1,024 octets of UTF-8 without the octet 0 and without a
 /// wildcard, which do not begin with `$`; it may be empty. Contracts see it as the list of its
 /// octets.
-#[derive(Drop)]
 pub struct Prefix {
     octets: Octets,
+}
+
+impl Drop for Prefix {
+    fn drop(self) {
+        let Prefix { octets } = self;
+        drop(octets);
+    }
 }
 
 impl Model for Prefix {

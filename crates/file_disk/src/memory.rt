@@ -79,11 +79,21 @@ impl MemoryOctets {
 
 /// A file in memory. A call fails only where memory was refused, or where a read or a cut goes past
 /// its end.
-#[derive(Drop)]
 pub struct MemoryFile {
     octets: MemoryOctets,
     loose: bool,
     doubted: bool,
+}
+
+impl Drop for MemoryFile {
+    fn drop(self) {
+        let MemoryFile {
+            octets,
+            loose: _,
+            doubted: _,
+        } = self;
+        drop(octets);
+    }
 }
 
 impl Model for MemoryFile {

@@ -12,7 +12,6 @@ use std::alloc::Global;
 use std::fmt;
 
 /// What a node answers to a call.
-#[derive(Drop)]
 pub struct Out {
     /// The datagrams to be sent, in their order.
     pub sends: Sequence<Send>,
@@ -24,6 +23,23 @@ pub struct Out {
     pub digest: Option<Digest>,
     /// The view that was asked for, where the client is known.
     pub view: Option<ClientView>,
+}
+
+impl Drop for Out {
+    fn drop(self) {
+        let Out {
+            sends,
+            made,
+            answer,
+            digest,
+            view,
+        } = self;
+        drop(sends);
+        drop(made);
+        drop(answer);
+        drop(digest);
+        drop(view);
+    }
 }
 
 impl fmt::Debug for Out {

@@ -6,7 +6,6 @@ use rep_ops::{ClientId, Delta};
 use sn_local::Addr;
 
 /// A call of a node, with its arguments. Moments are in seconds.
-#[derive(Drop)]
 pub enum Step {
     /// A datagram comes from an address at a moment.
     Frame {
@@ -43,4 +42,23 @@ pub enum Step {
     Compact,
     /// The node is opened again, from what its disk holds.
     Reopen,
+}
+
+impl Drop for Step {
+    fn drop(self) {
+        match self {
+            Step::Frame {
+                from: _,
+                bytes,
+                now: _,
+            } => drop(bytes),
+            Step::Take { delta } => drop(delta),
+            Step::Tick { now: _ } => {}
+            Step::View { client } => drop(client),
+            Step::Digest => {}
+            Step::Answer { digest } => drop(digest),
+            Step::Compact => {}
+            Step::Reopen => {}
+        }
+    }
 }

@@ -28,7 +28,6 @@ pub(crate) struct Heard {
 }
 
 /// A link that is open.
-#[derive(Drop)]
 pub struct Link<S: Drop> {
     pub(crate) stream: S,
     /// Which end made the connection.
@@ -81,6 +80,47 @@ pub struct Link<S: Drop> {
     pub told: u64,
     /// What was counted since the link was made.
     pub(crate) counts: LinkCounts,
+}
+
+impl<S: Drop> Drop for Link<S> {
+    fn drop(self) {
+        let Link {
+            stream,
+            origin: _,
+            incoming,
+            waiting,
+            asked,
+            other: _,
+            linked,
+            ever,
+            said,
+            changes: _,
+            place: _,
+            named: _,
+            spoke: _,
+            heard: _,
+            silence: _,
+            repeats: _,
+            failed: _,
+            outgoing,
+            answering: _,
+            behind: _,
+            written: _,
+            stalls: _,
+            mute: _,
+            greeted: _,
+            told: _,
+            counts: _,
+        } = self;
+        drop(stream);
+        drop(incoming);
+        drop(waiting);
+        drop(asked);
+        drop(linked);
+        drop(ever);
+        drop(said);
+        drop(outgoing);
+    }
 }
 
 impl<S: Drop> Link<S> {

@@ -62,7 +62,6 @@ struct Answered {
     second: u64,
 }
 
-#[derive(Drop)]
 struct Board {
     /// The gateways that may be linked: all, where none is named.
     numbers: Vec<u8>,
@@ -94,12 +93,48 @@ struct Board {
     found_by: Option<u8>,
 }
 
+impl Drop for Board {
+    fn drop(self) {
+        let Board {
+            numbers,
+            known,
+            notes,
+            made: _,
+            places,
+            ids: _,
+            changes: _,
+            handed,
+            first: _,
+            octets: _,
+            answers,
+            tallies,
+            heard: _,
+            working: _,
+            own: _,
+            found_by: _,
+        } = self;
+        drop(numbers);
+        drop(known);
+        drop(notes);
+        drop(places);
+        drop(handed);
+        drop(answers);
+        drop(tallies);
+    }
+}
+
 /// What all links of a gateway share: what is handed on from one to the others, who is linked, when
 /// digests were answered, and what an operator should hear of. It outlives a shift. Any thread may
 /// call each method, which holds the relay's lock while it runs, and takes no other.
-#[derive(Drop)]
 pub struct Relay {
     board: Mutex<Board>,
+}
+
+impl Drop for Relay {
+    fn drop(self) {
+        let Relay { board } = self;
+        drop(board);
+    }
 }
 
 impl Relay {

@@ -19,7 +19,6 @@ pub enum Phase {
 /// Tells the threads of a shift how far it is, lets them wait for that, and gives out its calls:
 /// who makes one has claimed it before. All of them share it. What takes `rt` takes its lock for a
 /// moment, and holds no lock while it waits; what does not takes none.
-#[derive(Drop)]
 pub struct Stage {
     phase: Mutex<Phase>,
     changed: Condvar,
@@ -31,6 +30,24 @@ pub struct Stage {
     kept: AtomicU64,
     /// The greatest number of a call that the clock or a link has made.
     made: AtomicU64,
+}
+
+impl Drop for Stage {
+    fn drop(self) {
+        let Stage {
+            phase,
+            changed,
+            steps: _,
+            claims,
+            kept,
+            made,
+        } = self;
+        drop(phase);
+        drop(changed);
+        drop(claims);
+        drop(kept);
+        drop(made);
+    }
 }
 
 impl Stage {

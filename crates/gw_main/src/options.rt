@@ -5,7 +5,6 @@ use sn_local::Addr;
 use sn_topic::Predefined;
 
 /// What a daemon is told when it starts.
-#[derive(Drop)]
 pub struct Settings {
     /// The gateway's number: 1 to 255.
     pub gateway: u8,
@@ -39,4 +38,33 @@ pub struct Settings {
     pub status: Option<Addr>,
     /// The greatest number of a level whose events are written; 0 for none.
     pub log: u8,
+}
+
+impl Drop for Settings {
+    fn drop(self) {
+        let Settings {
+            gateway: _,
+            listen: _,
+            link: _,
+            journal,
+            workers: _,
+            steps: _,
+            advertise: _,
+            lifetime: _,
+            field,
+            peers,
+            predefined,
+            numbers,
+            clients,
+            newcomers: _,
+            status: _,
+            log: _,
+        } = self;
+        drop(journal);
+        drop(field);
+        drop(peers);
+        drop(predefined);
+        drop(numbers);
+        drop(clients);
+    }
 }

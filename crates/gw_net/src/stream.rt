@@ -21,10 +21,16 @@ pub struct Fed {
 
 /// The end of a link at which octets come in, in pieces. Contracts see the octets that wait for the
 /// rest of their message, and whether the link has failed.
-#[derive(Drop)]
 pub struct LinkIn {
     waiting: Option<Vec<u8>>,
     failed: bool,
+}
+
+impl Drop for LinkIn {
+    fn drop(self) {
+        let LinkIn { waiting, failed: _ } = self;
+        drop(waiting);
+    }
 }
 
 impl Model for LinkIn {

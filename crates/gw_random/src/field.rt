@@ -19,12 +19,19 @@ pub(crate) struct Field {
 }
 
 /// What a run answered.
-#[derive(Drop)]
 pub(crate) struct Played {
     /// An answer for each event.
     pub(crate) answers: Sequence<Answer>,
     /// The deltas that were made or answered.
     pub(crate) deltas: Sequence<Delta>,
+}
+
+impl Drop for Played {
+    fn drop(self) {
+        let Played { answers, deltas } = self;
+        drop(answers);
+        drop(deltas);
+    }
 }
 
 impl Field {

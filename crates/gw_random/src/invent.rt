@@ -32,7 +32,6 @@ const IN_MIND: usize = 16;
 const FIRST_PORT: u16 = 100;
 
 /// What the inventor of a script knows of its field.
-#[derive(Drop)]
 struct Invention {
     draw: Draw,
     /// How many gateways there are.
@@ -47,6 +46,23 @@ struct Invention {
     listed: Listed,
     /// A gateway that is to be opened again after so many events.
     due: Option<(u8, u8)>,
+}
+
+impl Drop for Invention {
+    fn drop(self) {
+        let Invention {
+            draw: _,
+            gateways: _,
+            homes,
+            now: _,
+            replies,
+            listed,
+            due: _,
+        } = self;
+        drop(homes);
+        drop(replies);
+        drop(listed);
+    }
 }
 
 /// The script of a seed.

@@ -25,7 +25,6 @@ pub struct Found {
 }
 
 /// What came of the scripts of a seed.
-#[derive(Drop)]
 pub struct Report {
     /// How many events the scripts had.
     pub events: u64,
@@ -33,6 +32,17 @@ pub struct Report {
     pub scripts: u64,
     /// The first that differs, if one does.
     pub found: Option<Found>,
+}
+
+impl Drop for Report {
+    fn drop(self) {
+        let Report {
+            events: _,
+            scripts: _,
+            found,
+        } = self;
+        drop(found);
+    }
 }
 
 /// Plays random scripts over so many gateways, of so many events in all, and says where one differs

@@ -52,7 +52,6 @@ struct Part {
 }
 
 /// A script that differs.
-#[derive(Drop)]
 pub(crate) struct Short {
     /// The script, without an exchange.
     pub(crate) events: Vec<Event>,
@@ -60,6 +59,18 @@ pub(crate) struct Short {
     pub(crate) all: Vec<Event>,
     /// Where it differs.
     pub(crate) difference: Difference,
+}
+
+impl Drop for Short {
+    fn drop(self) {
+        let Short {
+            events,
+            all,
+            difference: _,
+        } = self;
+        drop(events);
+        drop(all);
+    }
 }
 
 /// What comes of a script.

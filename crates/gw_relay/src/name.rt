@@ -9,7 +9,6 @@ use std::alloc::Global;
 
 /// The name of an operation, and of acknowledgements their range: what tells it from others,
 /// without what it says.
-#[derive(Drop)]
 pub struct Name {
     /// What it is an operation on.
     pub of: Subject,
@@ -21,6 +20,19 @@ pub struct Name {
     pub first: u64,
     /// The counter below its stamp, or the last of its messages, or its clock.
     pub last: u64,
+}
+
+impl Drop for Name {
+    fn drop(self) {
+        let Name {
+            of,
+            kind: _,
+            gateway: _,
+            first: _,
+            last: _,
+        } = self;
+        drop(of);
+    }
 }
 
 /// The name of an operation. The only fault is want of memory.

@@ -74,7 +74,6 @@ pub enum Alarm {
 }
 
 /// Events at which somebody should look.
-#[derive(Drop)]
 pub enum Warning {
     /// The gateway was opened again, and all clients are disconnected.
     Reopened,
@@ -135,6 +134,31 @@ pub enum Warning {
     },
 }
 
+impl Drop for Warning {
+    fn drop(self) {
+        match self {
+            Warning::Reopened => {}
+            Warning::NotCompacted => {}
+            Warning::Stranger {
+                number: _,
+                times: _,
+            } => {}
+            Warning::DeltaFull {
+                number: _,
+                times: _,
+            } => {}
+            Warning::TurnedAway { times: _ } => {}
+            Warning::ClientFull { client } => drop(client),
+            Warning::TopicsNearFull { client, topics: _ } => drop(client),
+            Warning::ClientsNearFull { clients: _ } => {}
+            Warning::Dropped { times: _ } => {}
+            Warning::NothingSent => {}
+            Warning::StoodStill { seconds: _ } => {}
+            Warning::LinkLost { number: _ } => {}
+        }
+    }
+}
+
 /// Events of a field as it should be.
 #[derive(Drop)]
 pub enum Note {
@@ -155,7 +179,6 @@ pub enum Note {
 }
 
 /// Events of single clients.
-#[derive(Drop)]
 pub enum Detail {
     /// A client has connected.
     Connected {
@@ -176,8 +199,17 @@ pub enum Detail {
     },
 }
 
+impl Drop for Detail {
+    fn drop(self) {
+        match self {
+            Detail::Connected { client } => drop(client),
+            Detail::Lost { client } => drop(client),
+            Detail::TakenOver { client, number: _ } => drop(client),
+        }
+    }
+}
+
 /// What happened, by its level.
-#[derive(Drop)]
 pub enum What {
     /// Somebody must act.
     Alarm(Alarm),
@@ -187,6 +219,17 @@ pub enum What {
     Note(Note),
     /// It is of one client.
     Detail(Detail),
+}
+
+impl Drop for What {
+    fn drop(self) {
+        match self {
+            What::Alarm(inner) => drop(inner),
+            What::Warning(inner) => drop(inner),
+            What::Note(inner) => drop(inner),
+            What::Detail(inner) => drop(inner),
+        }
+    }
 }
 
 /// An event.

@@ -44,7 +44,6 @@ pub struct First {
 }
 
 /// A client at a glance.
-#[derive(Drop)]
 pub struct Glimpse {
     /// Its id.
     pub client: ClientId,
@@ -62,8 +61,23 @@ pub struct Glimpse {
     pub local: Option<LocalGlimpse>,
 }
 
+impl Drop for Glimpse {
+    fn drop(self) {
+        let Glimpse {
+            client,
+            stamp: _,
+            prefix: _,
+            session: _,
+            waiting: _,
+            first,
+            local: _,
+        } = self;
+        drop(client);
+        drop(first);
+    }
+}
+
 /// A glimpse, and what earlier ones add to it.
-#[derive(Drop)]
 pub struct Seen {
     /// The glimpse.
     pub glimpse: Glimpse,
@@ -71,4 +85,15 @@ pub struct Seen {
     pub silence: Option<u64>,
     /// Seconds for which the first message has been the same.
     pub since: Option<u64>,
+}
+
+impl Drop for Seen {
+    fn drop(self) {
+        let Seen {
+            glimpse,
+            silence: _,
+            since: _,
+        } = self;
+        drop(glimpse);
+    }
 }

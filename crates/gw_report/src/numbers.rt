@@ -167,7 +167,6 @@ impl Singles {
 }
 
 /// What is known of a place of a link. If no link is up, the numbers are those of the last one.
-#[derive(Drop)]
 pub struct Link {
     /// The place.
     pub place: Place,
@@ -195,6 +194,26 @@ pub struct Link {
     pub dials_failed: u64,
 }
 
+impl Drop for Link {
+    fn drop(self) {
+        let Link {
+            place,
+            up: _,
+            number: _,
+            since_seconds: _,
+            heard_seconds: _,
+            waiting_octets: _,
+            told: _,
+            taken: _,
+            answer_operations: _,
+            received_octets: _,
+            sent_octets: _,
+            dials_failed: _,
+        } = self;
+        drop(place);
+    }
+}
+
 impl Link {
     /// The number of this name.
     #[tactic(auto, unfolding(crate::specs::Numbers::link_value))]
@@ -219,7 +238,6 @@ impl Link {
 
 /// All numbers of a report: each has a place of its own, so none is left out and none is there
 /// twice.
-#[derive(Drop)]
 pub struct Numbers {
     /// Those without a label.
     pub singles: Singles,
@@ -243,4 +261,33 @@ pub struct Numbers {
     pub links: Sequence<Link>,
     /// Deltas that came and were refused, by place and fault.
     pub link_refused: Sequence<Sample>,
+}
+
+impl Drop for Numbers {
+    fn drop(self) {
+        let Numbers {
+            singles,
+            frames_received,
+            datagrams_sent,
+            calls,
+            compactions,
+            reopenings,
+            clients,
+            journal_octets,
+            messages_known,
+            links,
+            link_refused,
+        } = self;
+        drop(singles);
+        drop(frames_received);
+        drop(datagrams_sent);
+        drop(calls);
+        drop(compactions);
+        drop(reopenings);
+        drop(clients);
+        drop(journal_octets);
+        drop(messages_known);
+        drop(links);
+        drop(link_refused);
+    }
 }

@@ -17,7 +17,6 @@ pub struct Health {
 }
 
 /// What can be told of a running gateway, copied at one time.
-#[derive(Drop)]
 pub struct Report {
     /// Its numbers.
     pub numbers: Numbers,
@@ -27,4 +26,18 @@ pub struct Report {
     pub events: Sequence<Event>,
     /// Whether it is well.
     pub health: Health,
+}
+
+impl Drop for Report {
+    fn drop(self) {
+        let Report {
+            numbers,
+            clients,
+            events,
+            health: _,
+        } = self;
+        drop(numbers);
+        drop(clients);
+        drop(events);
+    }
 }

@@ -10,7 +10,6 @@ use std::time::Clock;
 /// Whether the gateway listens to the peers that it dials, and does not serve yet: what it tells a
 /// client that wakes is then what they know. The reader's thread looks whether that is over, and
 /// any thread reads what it found, without a lock.
-#[derive(Drop)]
 pub struct Listening {
     is_on: AtomicBool,
     /// How many peers it dials.
@@ -21,6 +20,23 @@ pub struct Listening {
     heard: AtomicU64,
     /// The millisecond in which a look found a new one, or one that was worked on.
     last: AtomicU64,
+}
+
+impl Drop for Listening {
+    fn drop(self) {
+        let Listening {
+            is_on,
+            peers,
+            began,
+            heard,
+            last,
+        } = self;
+        drop(is_on);
+        drop(peers);
+        drop(began);
+        drop(heard);
+        drop(last);
+    }
 }
 
 impl Listening {

@@ -18,7 +18,6 @@ const LARGEST_PIECE: usize = 65_536;
 /// How many seconds an empty seat waits for a link before it looks again.
 const SEAT_WAIT_SECONDS: u64 = 5;
 
-#[derive(Drop)]
 struct Links<S: Drop> {
     /// Those that wait for a seat.
     waiting: Vec<Link<S>>,
@@ -36,11 +35,29 @@ struct Links<S: Drop> {
     pieces: Vec<Vec<u8>>,
 }
 
+impl<S: Drop> Drop for Links<S> {
+    fn drop(self) {
+        let Links {
+            waiting,
+            talked,
+            dialled,
+            spoken,
+            accepted: _,
+            is_quiet: _,
+            pieces,
+        } = self;
+        drop(waiting);
+        drop(talked);
+        drop(dialled);
+        drop(spoken);
+        drop(pieces);
+    }
+}
+
 /// What outlives a shift: the links that wait for a seat, how many are open, and the second in
 /// which the clock last ticked. Threads of shifts, of seats and of doors share it. A method that
 /// takes `rt` holds the pool's lock for a moment; only a link that is closed for want of memory
 /// makes it take the relay's beside it.
-#[derive(Drop)]
 pub struct Pool<S: Drop> {
     links: Mutex<Links<S>>,
     /// A link seeks a seat, or the shift is quiet.
@@ -59,6 +76,31 @@ pub struct Pool<S: Drop> {
     ticked: AtomicU64,
     /// How often the clock's thread has begun a round.
     pub rounds: AtomicU64,
+}
+
+impl<S: Drop> Drop for Pool<S> {
+    fn drop(self) {
+        let Pool {
+            links,
+            changed,
+            relay,
+            clock,
+            outage,
+            listening,
+            backlog,
+            ticked,
+            rounds,
+        } = self;
+        drop(links);
+        drop(changed);
+        drop(relay);
+        drop(clock);
+        drop(outage);
+        drop(listening);
+        drop(backlog);
+        drop(ticked);
+        drop(rounds);
+    }
 }
 
 /// Puts the same word so often after others. Whether there was memory for it.

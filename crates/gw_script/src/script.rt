@@ -15,12 +15,19 @@ use sn_topic::{Predefined, TopicFault, TopicName};
 use std::alloc::Global;
 
 /// What a script says: which gateways there are, and then what happens.
-#[derive(Drop)]
 pub struct Script {
     /// The gateways, in the order of their lines.
     pub configs: Sequence<Config>,
     /// The events, in the order of their lines.
     pub events: Sequence<Event>,
+}
+
+impl Drop for Script {
+    fn drop(self) {
+        let Script { configs, events } = self;
+        drop(configs);
+        drop(events);
+    }
 }
 
 impl Script {

@@ -46,7 +46,6 @@ struct Rings {
 }
 
 /// Counts the rings, and says when there will be no more.
-#[derive(Drop)]
 pub struct Bell {
     rings: Mutex<Rings>,
     /// How often it has rung, and one more where it is closed. Who looks reads it without the lock.
@@ -60,6 +59,26 @@ pub struct Bell {
     put: AtomicU64,
     /// How many datagrams were taken from the queue.
     taken: AtomicU64,
+}
+
+impl Drop for Bell {
+    fn drop(self) {
+        let Bell {
+            rings,
+            count,
+            rung,
+            turn,
+            workers: _,
+            put,
+            taken,
+        } = self;
+        drop(rings);
+        drop(count);
+        drop(rung);
+        drop(turn);
+        drop(put);
+        drop(taken);
+    }
 }
 
 /// What was heard at one moment.

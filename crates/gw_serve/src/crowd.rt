@@ -35,13 +35,20 @@ pub fn waits_on(waiting: u64, expected: u64, waited: u64, still: u64, lasted: u6
 }
 
 /// What the last row says of the next one.
-#[derive(Drop)]
 pub struct Crowd {
     /// How many datagrams it may have: as many as the last row, and as many as waited after its
     /// calls.
     expected: AtomicU64,
     /// How many microseconds the calls of the last row took.
     lasted: AtomicU64,
+}
+
+impl Drop for Crowd {
+    fn drop(self) {
+        let Crowd { expected, lasted } = self;
+        drop(expected);
+        drop(lasted);
+    }
 }
 
 impl Crowd {

@@ -88,7 +88,6 @@ impl Seat {
 }
 
 /// What the reader and all workers share while serving lasts. The shift is lent for longer.
-#[derive(Drop)]
 pub struct Shared<'s, 'a, T: Wait, R: Replica, D: Disk, P: Post, G: Gate> {
     /// The waiting of the threads.
     pub rt: &'a T,
@@ -106,6 +105,25 @@ pub struct Shared<'s, 'a, T: Wait, R: Replica, D: Disk, P: Post, G: Gate> {
     pub post: &'a P,
     /// What hears of each reply.
     pub gate: &'a G,
+}
+
+impl<'s, 'a, T: Wait, R: Replica, D: Disk, P: Post, G: Gate> Drop
+    for Shared<'s, 'a, T, R, D, P, G> {
+    fn drop(self) {
+        let Shared {
+            rt: _,
+            alloc: _,
+            shift: _,
+            bell,
+            crowd,
+            stop,
+            post: _,
+            gate: _,
+        } = self;
+        drop(bell);
+        drop(crowd);
+        drop(stop);
+    }
 }
 
 /// Works until the queue is closed and empty. If it failed, the reader is to stop. Runs in a

@@ -108,7 +108,6 @@ pub fn millisecond<C: Clock>(clock: &C) -> u64 {
 /// Its moments are what goes into messages and comes from other gateways: seconds since 1970, by
 /// the date as it was when `set` was called, and by the seconds of this clock from then on. So no
 /// step of the date moves a timer, and no standing still; both part moments from the date.
-#[derive(Drop)]
 pub struct FieldClock {
     at: AtomicU64,
     lost: AtomicU64,
@@ -120,6 +119,23 @@ pub struct FieldClock {
     began: AtomicU64,
     /// How many milliseconds were lost when that was set.
     lost_before: AtomicU64,
+}
+
+impl Drop for FieldClock {
+    fn drop(self) {
+        let FieldClock {
+            at,
+            lost,
+            time,
+            began,
+            lost_before,
+        } = self;
+        drop(at);
+        drop(lost);
+        drop(time);
+        drop(began);
+        drop(lost_before);
+    }
 }
 
 impl FieldClock {

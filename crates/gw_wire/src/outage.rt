@@ -46,7 +46,6 @@ struct Letter {
 /// all the same, until one was sent and the next one cannot be: it may be for an address that is
 /// nobody's. Workers and the clock's thread share it. Its lock is held to put or take that
 /// datagram, and not to send it.
-#[derive(Drop)]
 pub struct Outage {
     is_on: AtomicBool,
     /// The millisecond in which the clock first stood still, since the last one was sent; or 0.
@@ -54,6 +53,21 @@ pub struct Outage {
     /// The millisecond in which it was last told.
     told: AtomicU64,
     unsent: Mutex<Option<Letter>>,
+}
+
+impl Drop for Outage {
+    fn drop(self) {
+        let Outage {
+            is_on,
+            began,
+            told,
+            unsent,
+        } = self;
+        drop(is_on);
+        drop(began);
+        drop(told);
+        drop(unsent);
+    }
 }
 
 impl Outage {

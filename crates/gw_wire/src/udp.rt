@@ -41,7 +41,6 @@ const UNSENT_OCTETS: i32 = 376_832;
 const MOST_OFFERS: u32 = 20_000;
 
 /// A UDP socket with what tells that it is readable.
-#[derive(Drop)]
 pub struct Socket {
     socket: UdpSocket,
     poll: Poll,
@@ -53,8 +52,26 @@ pub struct Socket {
     pub failures: Failures,
 }
 
+impl Drop for Socket {
+    fn drop(self) {
+        let Socket {
+            socket,
+            poll,
+            events,
+            choked,
+            local,
+            failures,
+        } = self;
+        drop(socket);
+        drop(poll);
+        drop(events);
+        drop(choked);
+        drop(local);
+        drop(failures);
+    }
+}
+
 /// The reader's side of a socket. One thread has it, and waits in it without a lock.
-#[derive(Drop)]
 pub struct UdpReceiver<'a> {
     clock: &'a FieldClock,
     socket: &'a UdpSocket,
@@ -66,6 +83,23 @@ pub struct UdpReceiver<'a> {
     pub arrivals: Tally,
     /// How many datagrams were dropped.
     pub drops: Tally,
+}
+
+impl Drop for UdpReceiver<'_> {
+    fn drop(self) {
+        let UdpReceiver {
+            clock: _,
+            socket: _,
+            poll: _,
+            events: _,
+            failures,
+            arrivals,
+            drops,
+        } = self;
+        drop(failures);
+        drop(arrivals);
+        drop(drops);
+    }
 }
 
 /// The side by which threads send. They share it, and take no lock.

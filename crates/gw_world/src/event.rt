@@ -9,7 +9,7 @@ use sn_topic::TopicName;
 use std::sync::Arc;
 
 /// A call that comes to a gateway with others.
-#[derive(Drop, PartialEq, Eq)]
+#[derive(PartialEq, Eq)]
 pub enum Call {
     /// A datagram comes, at a moment in seconds.
     Frame { from: Addr, bytes: Octets, now: u64 },
@@ -17,6 +17,20 @@ pub enum Call {
     Tick { now: u64 },
     /// The gateway takes a delta of the list, which is numbered from 1.
     Take { delta: u64 },
+}
+
+impl Drop for Call {
+    fn drop(self) {
+        match self {
+            Call::Frame {
+                from: _,
+                bytes,
+                now: _,
+            } => drop(bytes),
+            Call::Tick { now: _ } => {}
+            Call::Take { delta: _ } => {}
+        }
+    }
 }
 
 /// What can happen in a field. Gateways go by their numbers.
@@ -110,7 +124,6 @@ impl Event {
 }
 
 /// The answer to an event.
-#[derive(Drop)]
 pub enum Answer {
     /// A gateway's answer to a frame, a tick, a delta or a compaction; a peer's answer to a digest,
     /// or why there is no digest.
@@ -124,4 +137,19 @@ pub enum Answer {
     Records(u64),
     /// Nothing was to be said: a failure was arranged.
     Nothing,
+}
+
+impl Drop for Answer {
+    fn drop(self) {
+        match self {
+            Answer::Node(inner) => drop(inner),
+            Answer::Row(inner) => drop(inner),
+            Answer::Views(a, b) => {
+                drop(a);
+                drop(b);
+            }
+            Answer::Records(_) => {}
+            Answer::Nothing => {}
+        }
+    }
 }

@@ -85,10 +85,17 @@ impl MemorySlot {
 }
 
 /// Both slots.
-#[derive(Drop)]
 struct MemorySlots {
     first: MemorySlot,
     second: MemorySlot,
+}
+
+impl Drop for MemorySlots {
+    fn drop(self) {
+        let MemorySlots { first, second } = self;
+        drop(first);
+        drop(second);
+    }
 }
 
 impl Model for MemorySlots {
@@ -144,12 +151,24 @@ impl MemorySlots {
 
 /// A disk in memory. A call fails only where memory was refused, where a failure was arranged, or
 /// where a read goes past the end of a slot; each such call counts as a failure.
-#[derive(Drop)]
 pub struct MemoryDisk {
     slots: MemorySlots,
     plan: Option<Failure>,
     starved: bool,
     failures: Failures,
+}
+
+impl Drop for MemoryDisk {
+    fn drop(self) {
+        let MemoryDisk {
+            slots,
+            plan: _,
+            starved: _,
+            failures,
+        } = self;
+        drop(slots);
+        drop(failures);
+    }
 }
 
 impl Model for MemoryDisk {

@@ -12,9 +12,15 @@ use std::alloc::Global;
 use std::marker::Model;
 
 /// Records one behind the other, of which none is written yet. Contracts see their deltas.
-#[derive(Drop)]
 pub struct Records {
     bytes: Vec<u8>,
+}
+
+impl Drop for Records {
+    fn drop(self) {
+        let Records { bytes } = self;
+        drop(bytes);
+    }
 }
 
 impl Model for Records {

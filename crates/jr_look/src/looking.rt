@@ -28,7 +28,6 @@ pub struct Torn {
 }
 
 /// What there is to show.
-#[derive(Drop)]
 pub struct Findings {
     /// The number of the gateway that would open it, if the journal tells one or one was given.
     pub gateway: Option<u8>,
@@ -52,6 +51,26 @@ pub struct Findings {
     pub fault: Option<Fault>,
     /// What the records come to.
     pub replica: Option<Folded>,
+}
+
+impl Drop for Findings {
+    fn drop(self) {
+        let Findings {
+            gateway: _,
+            told: _,
+            first: _,
+            second: _,
+            generations: _,
+            is_fresh: _,
+            reading,
+            torn: _,
+            fault,
+            replica,
+        } = self;
+        drop(reading);
+        drop(fault);
+        drop(replica);
+    }
 }
 
 impl Findings {

@@ -11,20 +11,39 @@ use std::io::{Read, Seek, SeekFrom, Write};
 const MAX_SLOT: u64 = 1_073_741_824;
 
 /// Both files, open.
-#[derive(Drop)]
 pub struct Both {
     first: File,
     second: File,
 }
 
+impl Drop for Both {
+    fn drop(self) {
+        let Both { first, second } = self;
+        drop(first);
+        drop(second);
+    }
+}
+
 /// Both files, and what they hold.
-#[derive(Drop)]
 pub struct Pair {
     /// The octets of the first file.
     pub first: Vec<u8>,
     /// The octets of the second file.
     pub second: Vec<u8>,
     both: Both,
+}
+
+impl Drop for Pair {
+    fn drop(self) {
+        let Pair {
+            first,
+            second,
+            both,
+        } = self;
+        drop(first);
+        drop(second);
+        drop(both);
+    }
 }
 
 /// Opens both files, which no other program may have as its journal.

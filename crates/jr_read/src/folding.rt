@@ -10,12 +10,18 @@ use rep_ops::Delta;
 use std::alloc::Global;
 
 /// A record that was not taken.
-#[derive(Drop)]
 pub struct Misfit {
     /// How many records stand before it.
     pub before: usize,
     /// Why it was not taken.
     pub fault: TakeFault,
+}
+
+impl Drop for Misfit {
+    fn drop(self) {
+        let Misfit { before: _, fault } = self;
+        drop(fault);
+    }
 }
 
 /// Takes records, one after the other, until one does not fit to those before it.

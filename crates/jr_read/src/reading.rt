@@ -17,7 +17,6 @@ use rep_ops::Delta;
 use std::alloc::Global;
 
 /// What an opening reads of two slots.
-#[derive(Drop)]
 pub struct Reading {
     /// The deltas of the records.
     pub records: Vec<Delta>,
@@ -31,6 +30,20 @@ pub struct Reading {
     /// How many octets that slot has after the opening: a torn end is cut away, and where there
     /// was no journal one is begun.
     pub whole: usize,
+}
+
+impl Drop for Reading {
+    fn drop(self) {
+        let Reading {
+            records,
+            slot: _,
+            generation: _,
+            places,
+            whole: _,
+        } = self;
+        drop(records);
+        drop(places);
+    }
 }
 
 /// What an opening of a disk in memory gives.

@@ -28,7 +28,6 @@ pub enum Delivery {
 }
 
 /// What the broker is to publish if the connection breaks (MQTT 3.1.1 section 3.1.2.5).
-#[derive(Drop)]
 pub struct Will {
     /// The topic's name.
     pub topic: Octets,
@@ -40,8 +39,20 @@ pub struct Will {
     pub retain: bool,
 }
 
+impl Drop for Will {
+    fn drop(self) {
+        let Will {
+            topic,
+            message,
+            qos: _,
+            retain: _,
+        } = self;
+        drop(topic);
+        drop(message);
+    }
+}
+
 /// Who connects (MQTT 3.1.1 sections 3.1.3.4 and 3.1.3.5).
-#[derive(Drop)]
 pub struct Login {
     /// The name of the user, which is text.
     pub user: Octets,
@@ -49,8 +60,15 @@ pub struct Login {
     pub password: Option<Octets>,
 }
 
+impl Drop for Login {
+    fn drop(self) {
+        let Login { user, password } = self;
+        drop(user);
+        drop(password);
+    }
+}
+
 /// A packet (MQTT 3.1.1 section 3). A packet id is not 0.
-#[derive(Drop)]
 pub enum Packet {
     /// A client sets up a connection (section 3.1). `keep_alive` is in seconds, and the client's id
     /// is text.
@@ -104,4 +122,47 @@ pub enum Packet {
     PingResp,
     /// The end of a connection (section 3.14).
     Disconnect,
+}
+
+impl Drop for Packet {
+    fn drop(self) {
+        match self {
+            Packet::Connect {
+                clean: _,
+                keep_alive: _,
+                client,
+                will,
+                login,
+            } => {
+                drop(client);
+                drop(will);
+                drop(login);
+            }
+            Packet::ConnAck {
+                session: _,
+                code: _,
+            } => {}
+            Packet::Publish {
+                delivery: _,
+                retain: _,
+                topic,
+                body,
+            } => {
+                drop(topic);
+                drop(body);
+            }
+            Packet::PubAck { id: _ } => {}
+            Packet::Subscribe {
+                id: _,
+                filter,
+                qos: _,
+            } => drop(filter),
+            Packet::SubAck { id: _, granted: _ } => {}
+            Packet::Unsubscribe { id: _, filter } => drop(filter),
+            Packet::UnsubAck { id: _ } => {}
+            Packet::PingReq => {}
+            Packet::PingResp => {}
+            Packet::Disconnect => {}
+        }
+    }
 }

@@ -18,12 +18,18 @@ pub struct Fed {
 }
 
 /// The end of a connection at which octets come in, in pieces.
-#[derive(Drop)]
 pub struct PacketIn {
     /// The octets that wait for the rest of their packet.
     pub waiting: Vec<u8>,
     /// How many octets are still to be passed over.
     pub over: u32,
+}
+
+impl Drop for PacketIn {
+    fn drop(self) {
+        let PacketIn { waiting, over: _ } = self;
+        drop(waiting);
+    }
 }
 
 impl PacketIn {

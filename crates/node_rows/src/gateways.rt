@@ -14,11 +14,18 @@ use std::alloc::Global;
 use std::mem;
 
 /// A disk, or the gateway on it while that is open.
-#[derive(Drop)]
 pub(crate) struct Store<R: Replica> {
     /// The disk while no gateway is open on it.
     disk: MemoryDisk,
     pub(crate) node: Option<Node<R, MemoryDisk>>,
+}
+
+impl<R: Replica> Drop for Store<R> {
+    fn drop(self) {
+        let Store { disk, node } = self;
+        drop(disk);
+        drop(node);
+    }
 }
 
 impl<R: Replica> Store<R> {

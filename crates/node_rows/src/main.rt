@@ -169,11 +169,22 @@ enum Part {
 }
 
 /// What the lines have brought about on a replica.
-#[derive(Drop)]
 struct Play<R: Replica> {
     part: Part,
     names: Names,
     begun: Begun<R>,
+}
+
+impl<R: Replica> Drop for Play<R> {
+    fn drop(self) {
+        let Play {
+            part: _,
+            names,
+            begun,
+        } = self;
+        drop(names);
+        drop(begun);
+    }
 }
 
 /// What the lines of the row that has begun have brought about.

@@ -6,10 +6,17 @@ use crate::words::Words;
 use std::alloc::Global;
 
 /// Octets that have a name.
-#[derive(Drop)]
 struct Named {
     name: String,
     octets: Vec<u8>,
+}
+
+impl Drop for Named {
+    fn drop(self) {
+        let Named { name, octets } = self;
+        drop(name);
+        drop(octets);
+    }
 }
 
 /// All octets that have a name.

@@ -9,13 +9,25 @@ use std::alloc::Global;
 use std::fmt::Display;
 
 /// All that the program prints, and why it prints no more.
-#[derive(Drop)]
 pub(crate) struct Page {
     host: HostRuntime,
     alloc: Global,
     printed: String,
     /// The first reason.
     reason: Option<Stop>,
+}
+
+impl Drop for Page {
+    fn drop(self) {
+        let Page {
+            host,
+            alloc: _,
+            printed,
+            reason: _,
+        } = self;
+        drop(host);
+        drop(printed);
+    }
 }
 
 impl Page {

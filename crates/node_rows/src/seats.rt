@@ -25,7 +25,6 @@ pub(crate) type Called = Result<(Arc<Out>, u64), CallFault>;
 pub(crate) type RowCalled = Result<(Vec<Answer>, u64), CallFault>;
 
 /// Threads that begin at once, and what they note.
-#[derive(Drop)]
 struct Start {
     /// How many there are to be.
     threads: u64,
@@ -33,6 +32,18 @@ struct Start {
     come: AtomicU64,
     /// Memory ran out in one of them.
     is_short: AtomicBool,
+}
+
+impl Drop for Start {
+    fn drop(self) {
+        let Start {
+            threads: _,
+            come,
+            is_short,
+        } = self;
+        drop(come);
+        drop(is_short);
+    }
 }
 
 impl Start {

@@ -58,7 +58,6 @@ struct Order {
 }
 
 /// A shift of the row's gateway, and the passes of all shifts of the row.
-#[derive(Drop)]
 pub(crate) struct Shifts<R: Replica> {
     /// The shift that is open.
     open: Option<Shift<R, MemoryDisk>>,
@@ -68,6 +67,21 @@ pub(crate) struct Shifts<R: Replica> {
     seats: Vec<Seat>,
     /// The calls of the next `beside`, or of the next `row`.
     planned: Vec<Arc<Step>>,
+}
+
+impl<R: Replica> Drop for Shifts<R> {
+    fn drop(self) {
+        let Shifts {
+            open,
+            over,
+            seats,
+            planned,
+        } = self;
+        drop(open);
+        drop(over);
+        drop(seats);
+        drop(planned);
+    }
 }
 
 impl<R: Replica> Shifts<R> {

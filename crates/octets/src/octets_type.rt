@@ -10,9 +10,16 @@ use std::sync::ArcSlice;
 
 /// An octet string, which copies share: a copy takes no memory and moves no octet. Contracts see it
 /// as the list of its octets.
-#[derive(Debug, Drop)]
+#[derive(Debug)]
 pub struct Octets {
     items: ArcSlice<u8>,
+}
+
+impl Drop for Octets {
+    fn drop(self) {
+        let Octets { items } = self;
+        drop(items);
+    }
 }
 
 impl Model for Octets {

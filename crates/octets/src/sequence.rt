@@ -6,9 +6,15 @@ use std::alloc::{AllocError, AllocFailed, Global};
 use std::marker::Model;
 
 /// A list. Contracts see the list of its items, and neither capacity nor place.
-#[derive(Drop)]
 pub struct Sequence<T> {
     items: Vec<T>,
+}
+
+impl<T: Drop> Drop for Sequence<T> {
+    fn drop(self) {
+        let Sequence { items } = self;
+        drop(items);
+    }
 }
 
 impl<T> Model for Sequence<T> {
@@ -47,7 +53,8 @@ impl<T> Sequence<T> {
     pub fn into_vec(self) -> Vec<T>
         ensures { result.items ≡ self }
     {
-        self.items
+        let Sequence { items } = self;
+        items
     }
 
     /// How many items there are.

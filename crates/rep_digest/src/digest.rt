@@ -17,10 +17,17 @@ use std::marker::Model;
 
 /// What a gateway has taken: an entry for each client and one for each topic, in ascending order.
 /// It is spelled in at most 8,388,608 octets. Contracts see the lists of its entries.
-#[derive(Drop)]
 pub struct Digest {
     pub(crate) clients: Vec<ClientEntry>,
     pub(crate) topics: Vec<RetainedEntry>,
+}
+
+impl Drop for Digest {
+    fn drop(self) {
+        let Digest { clients, topics } = self;
+        drop(clients);
+        drop(topics);
+    }
 }
 
 impl Model for Digest {

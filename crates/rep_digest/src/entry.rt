@@ -8,7 +8,6 @@ use sn_topic::TopicName;
 
 /// What a digest says of one origin's messages for a client. Ranges of sequence numbers are in
 /// ascending order, and neither overlap nor touch.
-#[derive(Drop)]
 pub struct OriginEntry {
     /// The gateway that made the messages.
     pub origin: u8,
@@ -16,6 +15,18 @@ pub struct OriginEntry {
     pub acknowledged: Sequence<(u64, u64)>,
     /// The messages that wait: ranges, first and last.
     pub waiting: Sequence<(u64, u64)>,
+}
+
+impl Drop for OriginEntry {
+    fn drop(self) {
+        let OriginEntry {
+            origin: _,
+            acknowledged,
+            waiting,
+        } = self;
+        drop(acknowledged);
+        drop(waiting);
+    }
 }
 
 impl OriginEntry {
@@ -30,7 +41,6 @@ impl OriginEntry {
 }
 
 /// What a digest says of a client.
-#[derive(Drop)]
 pub struct ClientEntry {
     /// Whose entry it is.
     pub client: ClientId,
@@ -42,8 +52,20 @@ pub struct ClientEntry {
     pub origins: Sequence<OriginEntry>,
 }
 
+impl Drop for ClientEntry {
+    fn drop(self) {
+        let ClientEntry {
+            client,
+            stamp: _,
+            prefix: _,
+            origins,
+        } = self;
+        drop(client);
+        drop(origins);
+    }
+}
+
 /// What a digest says of a topic: what was retained of it last.
-#[derive(Drop)]
 pub struct RetainedEntry {
     /// The topic.
     pub topic: TopicName,
@@ -51,4 +73,15 @@ pub struct RetainedEntry {
     pub clock: u64,
     /// The gateway that retained it.
     pub gateway: u8,
+}
+
+impl Drop for RetainedEntry {
+    fn drop(self) {
+        let RetainedEntry {
+            topic,
+            clock: _,
+            gateway: _,
+        } = self;
+        drop(topic);
+    }
 }

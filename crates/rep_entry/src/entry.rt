@@ -11,7 +11,6 @@ use std::alloc::Global;
 
 /// What the replica keeps of one client. What its operations say is read off here, and nowhere
 /// worked out again.
-#[derive(Drop)]
 pub struct Entry {
     /// The view: stamp, prefix and session of the operations below, and the messages that wait.
     pub seen: ClientView,
@@ -23,6 +22,21 @@ pub struct Entry {
     pub parked: usize,
     /// How many acknowledgements stand above a number that is not acknowledged.
     pub exceptions: u64,
+}
+
+impl Drop for Entry {
+    fn drop(self) {
+        let Entry {
+            seen,
+            known,
+            acks,
+            parked: _,
+            exceptions: _,
+        } = self;
+        drop(seen);
+        drop(known);
+        drop(acks);
+    }
 }
 
 impl Entry {

@@ -33,12 +33,25 @@ use std::mem;
 /// What a delta changes of one client: the log and the acknowledgements as they will be, where
 /// something came for them, the messages that are new, and the sequence numbers that are
 /// acknowledged anew, as far as they reach.
-#[derive(Drop)]
 pub struct Fresh {
     pub(crate) log: Option<Log>,
     pub(crate) news: News,
     pub(crate) acks: Option<Acks>,
     pub(crate) span: Span,
+}
+
+impl Drop for Fresh {
+    fn drop(self) {
+        let Fresh {
+            log,
+            news,
+            acks,
+            span: _,
+        } = self;
+        drop(log);
+        drop(news);
+        drop(acks);
+    }
 }
 
 impl Fresh {

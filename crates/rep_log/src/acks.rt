@@ -22,9 +22,15 @@ use std::marker::Model;
 
 /// The acknowledged sequence numbers of each origin, as ranges in ascending order that do not
 /// touch. Contracts see the origins in ascending order, each with its ranges.
-#[derive(Drop)]
 pub struct Acks {
     origins: BTreeMap<u8, Vec<(u64, u64)>>,
+}
+
+impl Drop for Acks {
+    fn drop(self) {
+        let Acks { origins } = self;
+        drop(origins);
+    }
 }
 
 impl Model for Acks {

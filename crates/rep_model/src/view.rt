@@ -12,12 +12,18 @@ use std::alloc::Global;
 use std::marker::Model;
 
 /// Messages in the order of delivery: by sequence number, then origin. Contracts see the list.
-#[derive(Drop)]
 pub struct Puts {
     items: Vec<Put>,
     /// No message has a moment before this one, from which on it need not wait: whoever asks for
     /// one that is past looks at all of them only if one may be.
     soonest: u64,
+}
+
+impl Drop for Puts {
+    fn drop(self) {
+        let Puts { items, soonest: _ } = self;
+        drop(items);
+    }
 }
 
 impl Model for Puts {
@@ -101,7 +107,8 @@ impl Puts {
     pub fn into_items(self) -> Vec<Put>
         ensures { result.items ≡ self }
     {
-        self.items
+        let Puts { items, soonest: _ } = self;
+        items
     }
 
     /// How many messages there are.
@@ -131,7 +138,6 @@ impl Puts {
 }
 
 /// What a set of operations says of a client.
-#[derive(Drop)]
 pub struct ClientView {
     /// The greatest stamp whose Take is there.
     pub stamp: Option<Stamp>,
@@ -141,6 +147,19 @@ pub struct ClientView {
     pub session: Option<Session>,
     /// The messages that are not acknowledged, by sequence number, then origin.
     pub pending: Puts,
+}
+
+impl Drop for ClientView {
+    fn drop(self) {
+        let ClientView {
+            stamp: _,
+            prefix: _,
+            session,
+            pending,
+        } = self;
+        drop(session);
+        drop(pending);
+    }
 }
 
 impl ClientView {

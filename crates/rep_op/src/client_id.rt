@@ -11,9 +11,16 @@ use std::marker::Model;
 
 /// The name of a client: 1 to 23 octets (MQTT-SN 1.2 section 5.3.1). Contracts see the list of its
 /// octets.
-#[derive(Debug, Drop)]
+#[derive(Debug)]
 pub struct ClientId {
     octets: Octets,
+}
+
+impl Drop for ClientId {
+    fn drop(self) {
+        let ClientId { octets } = self;
+        drop(octets);
+    }
 }
 
 impl Model for ClientId {

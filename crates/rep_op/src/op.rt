@@ -26,7 +26,7 @@ pub struct Stamp {
 }
 
 /// A message that waits for a client.
-#[derive(Drop, PartialEq, Eq)]
+#[derive(PartialEq, Eq)]
 pub struct Put {
     /// The gateway that made it.
     pub origin: u8,
@@ -44,6 +44,22 @@ pub struct Put {
     pub body: Message,
 }
 
+impl Drop for Put {
+    fn drop(self) {
+        let Put {
+            origin: _,
+            seq: _,
+            topic,
+            qos: _,
+            retain: _,
+            expires: _,
+            body,
+        } = self;
+        drop(topic);
+        drop(body);
+    }
+}
+
 /// What is retained of a topic, to be handed to whoever subscribes to it later.
 #[derive(Drop, PartialEq, Eq)]
 pub struct Retained {
@@ -58,12 +74,21 @@ pub struct Retained {
 }
 
 /// What an operation is about.
-#[derive(Debug, Drop, PartialEq, Eq)]
+#[derive(Debug, PartialEq, Eq)]
 pub enum Subject {
     /// A client.
     Client(ClientId),
     /// A topic.
     Topic(TopicName),
+}
+
+impl Drop for Subject {
+    fn drop(self) {
+        match self {
+            Subject::Client(inner) => drop(inner),
+            Subject::Topic(inner) => drop(inner),
+        }
+    }
 }
 
 impl Subject {
@@ -79,7 +104,7 @@ impl Subject {
 }
 
 /// An operation on the state of a client, or of a topic.
-#[derive(Drop, PartialEq, Eq)]
+#[derive(PartialEq, Eq)]
 pub enum Op {
     /// A change of the session, named by client, stamp and counter. Counter 0 is a Take.
     Session {
@@ -105,6 +130,36 @@ pub enum Op {
         topic: TopicName,
         retained: Retained,
     },
+}
+
+impl Drop for Op {
+    fn drop(self) {
+        match self {
+            Op::Session {
+                client,
+                stamp: _,
+                counter: _,
+                change,
+            } => {
+                drop(client);
+                drop(change);
+            }
+            Op::Put { client, put } => {
+                drop(client);
+                drop(put);
+            }
+            Op::Ack {
+                client,
+                origin: _,
+                first: _,
+                last: _,
+            } => drop(client),
+            Op::Retain { topic, retained } => {
+                drop(topic);
+                drop(retained);
+            }
+        }
+    }
 }
 
 impl Put {

@@ -25,9 +25,15 @@ use std::marker::Model;
 
 /// A set of operations, in the order of their names; acknowledgements that touch are one range, and
 /// it is spelled in at most 8,388,608 octets. Contracts see the list of its operations.
-#[derive(Drop)]
 pub struct Delta {
     pub(crate) ops: Vec<Op>,
+}
+
+impl Drop for Delta {
+    fn drop(self) {
+        let Delta { ops } = self;
+        drop(ops);
+    }
 }
 
 impl Model for Delta {

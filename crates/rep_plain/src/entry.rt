@@ -16,7 +16,6 @@ use rep_shared::{count_parked, operations_in_order};
 use std::alloc::Global;
 
 /// The operations of one client, and what they come to.
-#[derive(Drop)]
 pub struct Entry {
     /// The operations in the order in which they came.
     pub(crate) ops: Vec<Op>,
@@ -26,6 +25,19 @@ pub struct Entry {
     pub(crate) parked: usize,
     /// How many acknowledgements stand above a number that is not acknowledged.
     pub(crate) exceptions: u64,
+}
+
+impl Drop for Entry {
+    fn drop(self) {
+        let Entry {
+            ops,
+            seen,
+            parked: _,
+            exceptions: _,
+        } = self;
+        drop(ops);
+        drop(seen);
+    }
 }
 
 impl Entry {

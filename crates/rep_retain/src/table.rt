@@ -29,9 +29,15 @@ use std::cmp::Ordering;
 use std::marker::Model;
 
 /// What is retained of each topic: the last. Contracts see the topics with it, in ascending order.
-#[derive(Drop)]
 pub struct Topics {
     entries: Vec<(TopicName, Retained)>,
+}
+
+impl Drop for Topics {
+    fn drop(self) {
+        let Topics { entries } = self;
+        drop(entries);
+    }
 }
 
 impl Model for Topics {

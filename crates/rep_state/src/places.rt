@@ -24,12 +24,22 @@ use rep_ops::ClientId;
 use std::alloc::Global;
 
 /// Where the entry of a client stands.
-#[derive(Drop)]
 pub struct Place {
     pub(crate) name: ClientId,
     pub(crate) index: usize,
     /// The marks of the topics that its filters may ask for.
     pub(crate) marks: u64,
+}
+
+impl Drop for Place {
+    fn drop(self) {
+        let Place {
+            name,
+            index: _,
+            marks: _,
+        } = self;
+        drop(name);
+    }
 }
 
 /// Where a name stands among places in order, or where it would go. The time is logarithmic.

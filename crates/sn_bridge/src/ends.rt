@@ -102,13 +102,26 @@ fn bound(
 }
 
 /// The connection to the broker.
-#[derive(Drop)]
 pub(crate) struct Line {
     stream: TcpStream,
     input: PacketIn,
     unsent: Vec<u8>,
     /// Whether the broker took the connection.
     pub is_open: bool,
+}
+
+impl Drop for Line {
+    fn drop(self) {
+        let Line {
+            stream,
+            input,
+            unsent,
+            is_open: _,
+        } = self;
+        drop(stream);
+        drop(input);
+        drop(unsent);
+    }
 }
 
 /// What a look at the connection found.

@@ -68,11 +68,22 @@ fn is_mapped(names: &[UpName], topic: &[u8]) -> bool {
 }
 
 /// What an entry `[[up]]` says of all its names.
-#[derive(Drop)]
 struct Above {
     prefix: Prefix,
     qos: Qos,
     kept: Vec<Octets>,
+}
+
+impl Drop for Above {
+    fn drop(self) {
+        let Above {
+            prefix,
+            qos: _,
+            kept,
+        } = self;
+        drop(prefix);
+        drop(kept);
+    }
 }
 
 /// What an entry says of all its names.

@@ -26,7 +26,6 @@ const MOST_OF_NAME: usize = 16;
 const MOST_OF_CLIENT: usize = 23;
 
 /// What a document asks for.
-#[derive(Drop)]
 pub(crate) struct Setup {
     /// What is carried.
     pub settings: Settings,
@@ -38,6 +37,23 @@ pub(crate) struct Setup {
     pub refused: Option<String>,
     /// The path of the spool.
     pub spool: Option<String>,
+}
+
+impl Drop for Setup {
+    fn drop(self) {
+        let Setup {
+            settings,
+            gateways,
+            broker,
+            refused,
+            spool,
+        } = self;
+        drop(settings);
+        drop(gateways);
+        drop(broker);
+        drop(refused);
+        drop(spool);
+    }
 }
 
 /// The name of the bridge: 1 to 16 octets of a to z, 0 to 9 and `-`.

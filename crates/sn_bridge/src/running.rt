@@ -38,7 +38,6 @@ const SOON: u64 = 3_000;
 const MOST_SHORT: u32 = 3;
 
 /// What the program has in hand.
-#[derive(Drop)]
 struct Turning<'a> {
     setup: &'a Setup,
     bridge: Bridge,
@@ -63,6 +62,36 @@ struct Turning<'a> {
     opened: u64,
     /// How many connections in turn the broker has ended soon.
     short: u32,
+}
+
+impl Drop for Turning<'_> {
+    fn drop(self) {
+        let Turning {
+            setup: _,
+            bridge,
+            poll,
+            lanes,
+            down,
+            line,
+            is_lost: _,
+            owed,
+            spool,
+            rest: _,
+            due: _,
+            is_busy: _,
+            refusal,
+            opened: _,
+            short: _,
+        } = self;
+        drop(bridge);
+        drop(poll);
+        drop(lanes);
+        drop(down);
+        drop(line);
+        drop(owed);
+        drop(spool);
+        drop(refusal);
+    }
 }
 
 /// The millisecond of the clock that nobody sets.

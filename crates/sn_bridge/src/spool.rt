@@ -40,7 +40,6 @@ const MOST_NUMBERS: u64 = 16_384;
 const LOOK: u64 = 10_000;
 
 /// The spool.
-#[derive(Drop)]
 pub(crate) struct Spool {
     node: Node<Folded, FileDisk>,
     path: String,
@@ -63,6 +62,29 @@ pub(crate) struct Spool {
     /// How many octets the journal had after it was last written anew, and both files together.
     base: u64,
     both: u64,
+}
+
+impl Drop for Spool {
+    fn drop(self) {
+        let Spool {
+            node,
+            path,
+            stores,
+            forgets,
+            below: _,
+            is_ready: _,
+            waits: _,
+            due: _,
+            late: _,
+            look: _,
+            base: _,
+            both: _,
+        } = self;
+        drop(node);
+        drop(path);
+        drop(stores);
+        drop(forgets);
+    }
 }
 
 /// What became of the spool in a turn.

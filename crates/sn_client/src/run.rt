@@ -25,7 +25,6 @@ const CONNECT: Command<'static> = Command::Connect {
 };
 
 /// Why a run failed.
-#[derive(Drop)]
 pub(crate) enum Fault {
     /// The socket, the clock or the output failed.
     Io(io::Error),
@@ -35,6 +34,17 @@ pub(crate) enum Fault {
     Frame(EncodeFault),
     /// Memory ran out.
     Memory,
+}
+
+impl Drop for Fault {
+    fn drop(self) {
+        match self {
+            Fault::Io(inner) => drop(inner),
+            Fault::Port { port: _, error } => drop(error),
+            Fault::Frame(inner) => drop(inner),
+            Fault::Memory => {}
+        }
+    }
 }
 
 impl fmt::Display for Fault {

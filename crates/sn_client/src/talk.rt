@@ -87,7 +87,6 @@ pub(crate) struct Publication {
 }
 
 /// An exchange that goes on.
-#[derive(Drop)]
 pub(crate) struct Talk {
     /// What is awaited.
     pub awaited: Awaited,
@@ -97,6 +96,21 @@ pub(crate) struct Talk {
     pub planned: Option<Publication>,
     /// How the exchange has ended, if it has.
     pub outcome: Option<Outcome>,
+}
+
+impl Drop for Talk {
+    fn drop(self) {
+        let Talk {
+            awaited,
+            pending,
+            planned,
+            outcome,
+        } = self;
+        drop(awaited);
+        drop(pending);
+        drop(planned);
+        drop(outcome);
+    }
 }
 
 impl Outcome {

@@ -11,10 +11,17 @@ use std::time::Duration;
 const RECV_TIMEOUT_MS: u64 = 50;
 
 /// A socket, and the gateway that it speaks with.
-#[derive(Drop)]
 pub(crate) struct Wire {
     socket: UdpSocket,
     gateway: SocketAddr,
+}
+
+impl Drop for Wire {
+    fn drop(self) {
+        let Wire { socket, gateway } = self;
+        drop(socket);
+        drop(gateway);
+    }
 }
 
 impl Wire {

@@ -6,7 +6,6 @@ use sn_session::Session;
 use sn_topic::Predefined;
 
 /// A client, the address that it speaks from, and the moment of the step in seconds.
-#[derive(Drop)]
 pub struct Peer {
     /// Where its frames go to.
     pub address: Addr,
@@ -14,6 +13,17 @@ pub struct Peer {
     pub client: ClientId,
     /// The moment of the step, in seconds.
     pub moment: u64,
+}
+
+impl Drop for Peer {
+    fn drop(self) {
+        let Peer {
+            address: _,
+            client,
+            moment: _,
+        } = self;
+        drop(client);
+    }
 }
 
 /// What a step reads where it serves a client.

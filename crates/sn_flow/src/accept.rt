@@ -69,26 +69,12 @@ fn accepted(
 ) -> Result<Session, NoMemory>
     ensures { IfOk result (λ made. made ≡ spec.accepted request.now given session.now) }
 {
-    let Session {
-        next_id,
-        topics,
-        subscriptions,
-        will,
-        received,
-        outbound,
-        ..
-    } = going_on(alloc, request.clean, session)?;
-    Ok(Session {
-        presence: Presence::Active,
-        clean: request.clean,
-        duration: request.duration,
-        next_id,
-        topics,
-        subscriptions,
-        will: will_after(given, will),
-        received,
-        outbound,
-    })
+    let mut session = going_on(alloc, request.clean, session)?;
+    session.presence = Presence::Active;
+    session.clean = request.clean;
+    session.duration = request.duration;
+    session.will = will_after(given, session.will.take());
+    Ok(session)
 }
 
 /// The names of these messages, if the session is clean.

@@ -7,7 +7,7 @@ use octets::Octets;
 pub const MAX_FRAME: usize = 65_535;
 
 /// The topic and the flags of a will (MQTT-SN 1.2 section 5.4.7).
-#[derive(Debug, Drop, PartialEq, Eq)]
+#[derive(Debug, PartialEq, Eq)]
 pub struct Will {
     /// QoS and Retain of the will's publication.
     pub flags: Flags,
@@ -15,9 +15,16 @@ pub struct Will {
     pub topic: Octets,
 }
 
+impl Drop for Will {
+    fn drop(self) {
+        let Will { flags: _, topic } = self;
+        drop(topic);
+    }
+}
+
 /// A message (MQTT-SN 1.2 section 5.4). Durations are in seconds, and `code` is a return code: 0
 /// accepted, 1 congestion, 2 invalid topic id, 3 not supported.
-#[derive(Debug, Drop, PartialEq, Eq)]
+#[derive(Debug, PartialEq, Eq)]
 pub enum Frame {
     /// A gateway says that it is there, and when it will say so again.
     Advertise {
@@ -142,4 +149,79 @@ pub enum Frame {
     WillMsgResp {
         code: u8,
     },
+}
+
+impl Drop for Frame {
+    fn drop(self) {
+        match self {
+            Frame::Advertise {
+                gateway: _,
+                duration: _,
+            } => {}
+            Frame::SearchGw { radius: _ } => {}
+            Frame::GwInfo {
+                gateway: _,
+                address,
+            } => drop(address),
+            Frame::Connect {
+                flags: _,
+                protocol: _,
+                duration: _,
+                client,
+            } => drop(client),
+            Frame::ConnAck { code: _ } => {}
+            Frame::WillTopicReq => {}
+            Frame::WillTopic { will } => drop(will),
+            Frame::WillMsgReq => {}
+            Frame::WillMsg { message } => drop(message),
+            Frame::Register {
+                topic_id: _,
+                msg_id: _,
+                name,
+            } => drop(name),
+            Frame::RegAck {
+                topic_id: _,
+                msg_id: _,
+                code: _,
+            } => {}
+            Frame::Publish {
+                flags: _,
+                topic: _,
+                msg_id: _,
+                body,
+            } => drop(body),
+            Frame::PubAck {
+                topic_id: _,
+                msg_id: _,
+                code: _,
+            } => {}
+            Frame::PubComp { msg_id: _ } => {}
+            Frame::PubRec { msg_id: _ } => {}
+            Frame::PubRel { msg_id: _ } => {}
+            Frame::Subscribe {
+                flags: _,
+                msg_id: _,
+                topic,
+            } => drop(topic),
+            Frame::SubAck {
+                flags: _,
+                topic_id: _,
+                msg_id: _,
+                code: _,
+            } => {}
+            Frame::Unsubscribe {
+                flags: _,
+                msg_id: _,
+                topic,
+            } => drop(topic),
+            Frame::UnsubAck { msg_id: _ } => {}
+            Frame::PingReq { client } => drop(client),
+            Frame::PingResp => {}
+            Frame::Disconnect { duration: _ } => {}
+            Frame::WillTopicUpd { will } => drop(will),
+            Frame::WillTopicResp { code: _ } => {}
+            Frame::WillMsgUpd { message } => drop(message),
+            Frame::WillMsgResp { code: _ } => {}
+        }
+    }
 }

@@ -15,7 +15,6 @@ pub struct Addr {
 }
 
 /// What a gateway is told when it starts.
-#[derive(Drop)]
 pub struct Config {
     /// Its number, 1 to 255; no other gateway of the field has it.
     pub gateway: u8,
@@ -28,6 +27,20 @@ pub struct Config {
     pub field: Sequence<Addr>,
     /// The topic ids that stand for names without registration.
     pub predefined: Predefined,
+}
+
+impl Drop for Config {
+    fn drop(self) {
+        let Config {
+            gateway: _,
+            advertise: _,
+            lifetime: _,
+            field,
+            predefined,
+        } = self;
+        drop(field);
+        drop(predefined);
+    }
 }
 
 impl Config {
@@ -60,10 +73,17 @@ impl Config {
 }
 
 /// A datagram to be sent.
-#[derive(Drop, PartialEq, Eq)]
+#[derive(PartialEq, Eq)]
 pub struct Send {
     /// Where the datagram goes to.
     pub to: Addr,
     /// The datagram: one frame.
     pub bytes: Octets,
+}
+
+impl Drop for Send {
+    fn drop(self) {
+        let Send { to: _, bytes } = self;
+        drop(bytes);
+    }
 }

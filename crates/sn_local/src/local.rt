@@ -17,12 +17,18 @@ use std::alloc::{AllocError, Global};
 use std::marker::Model;
 
 /// An address and the client that speaks from it.
-#[derive(Drop)]
 pub struct Binding {
     /// Where the client is reached.
     pub address: Addr,
     /// The client.
     pub client: ClientId,
+}
+
+impl Drop for Binding {
+    fn drop(self) {
+        let Binding { address: _, client } = self;
+        drop(client);
+    }
 }
 
 impl Binding {
@@ -38,12 +44,20 @@ impl Binding {
 }
 
 /// What a will dialog waits for.
-#[derive(Drop)]
 pub enum Awaited {
     /// The topic of the will.
     Topic,
     /// The message of the will, whose topic was given.
     Message(WillTopic),
+}
+
+impl Drop for Awaited {
+    fn drop(self) {
+        match self {
+            Awaited::Topic => {}
+            Awaited::Message(inner) => drop(inner),
+        }
+    }
 }
 
 impl Awaited {
@@ -59,7 +73,6 @@ impl Awaited {
 }
 
 /// What a CONNECT asks for.
-#[derive(Drop)]
 pub struct Request {
     /// Where it came from.
     pub address: Addr,
@@ -69,6 +82,18 @@ pub struct Request {
     pub clean: bool,
     /// The duration of the keep alive, in seconds.
     pub duration: u16,
+}
+
+impl Drop for Request {
+    fn drop(self) {
+        let Request {
+            address: _,
+            client,
+            clean: _,
+            duration: _,
+        } = self;
+        drop(client);
+    }
 }
 
 impl Request {
@@ -87,7 +112,6 @@ impl Request {
 
 /// A CONNECT with a will that is not accepted yet: the client is asked for its will first (MQTT-SN
 /// 1.2 section 6.2).
-#[derive(Drop)]
 pub struct WillDialog {
     /// What the CONNECT asks for.
     pub request: Request,
@@ -95,6 +119,18 @@ pub struct WillDialog {
     pub begun: u64,
     /// What the gateway waits for.
     pub awaited: Awaited,
+}
+
+impl Drop for WillDialog {
+    fn drop(self) {
+        let WillDialog {
+            request,
+            begun: _,
+            awaited,
+        } = self;
+        drop(request);
+        drop(awaited);
+    }
 }
 
 impl WillDialog {
@@ -113,7 +149,6 @@ impl WillDialog {
 }
 
 /// The moments of a client, in seconds.
-#[derive(Drop)]
 pub struct Timer {
     /// The client.
     pub client: ClientId,
@@ -123,6 +158,18 @@ pub struct Timer {
     pub sent: u64,
     /// How often that frame was sent again.
     pub tries: u8,
+}
+
+impl Drop for Timer {
+    fn drop(self) {
+        let Timer {
+            client,
+            heard: _,
+            sent: _,
+            tries: _,
+        } = self;
+        drop(client);
+    }
 }
 
 impl Timer {
@@ -169,12 +216,25 @@ pub enum LocalChange {
 /// awaited, when which client was heard of, and when the gateway advertised itself. It begins
 /// empty, and is gone when the gateway stops. The bindings ascend by address, and no client has
 /// two; the timers ascend by client.
-#[derive(Drop)]
 pub struct Dialogs {
     bindings: Vec<Binding>,
     dialogs: Vec<WillDialog>,
     timers: Vec<Timer>,
     advertised: Option<u64>,
+}
+
+impl Drop for Dialogs {
+    fn drop(self) {
+        let Dialogs {
+            bindings,
+            dialogs,
+            timers,
+            advertised: _,
+        } = self;
+        drop(bindings);
+        drop(dialogs);
+        drop(timers);
+    }
 }
 
 impl Model for Dialogs {

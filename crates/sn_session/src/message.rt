@@ -12,9 +12,15 @@ use std::marker::Model;
 pub const MAX_MESSAGE: usize = 4096;
 
 /// What a message says: at most 4,096 octets, which copies share. Contracts see the list of them.
-#[derive(Drop)]
 pub struct Message {
     octets: Octets,
+}
+
+impl Drop for Message {
+    fn drop(self) {
+        let Message { octets } = self;
+        drop(octets);
+    }
 }
 
 impl Model for Message {

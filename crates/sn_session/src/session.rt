@@ -17,7 +17,7 @@ use sn_tables::{QosLevel, Received, SessionFault, Subscriptions, TopicEntry, Top
 use std::alloc::Global;
 
 /// What a gateway knows of a client.
-#[derive(Drop, PartialEq, Eq)]
+#[derive(PartialEq, Eq)]
 pub struct Session {
     /// Where the client is.
     pub presence: Presence,
@@ -37,6 +37,27 @@ pub struct Session {
     pub received: Received,
     /// The exchange that the gateway has begun.
     pub outbound: Option<Outbound>,
+}
+
+impl Drop for Session {
+    fn drop(self) {
+        let Session {
+            presence,
+            clean: _,
+            duration: _,
+            next_id: _,
+            topics,
+            subscriptions,
+            will,
+            received,
+            outbound: _,
+        } = self;
+        drop(presence);
+        drop(topics);
+        drop(subscriptions);
+        drop(will);
+        drop(received);
+    }
 }
 
 impl Session {

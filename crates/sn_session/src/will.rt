@@ -22,7 +22,7 @@ pub struct WillTopic {
 }
 
 /// A will.
-#[derive(Drop, PartialEq, Eq)]
+#[derive(PartialEq, Eq)]
 pub struct Will {
     /// Where it is published.
     pub topic: TopicName,
@@ -32,6 +32,19 @@ pub struct Will {
     pub retain: bool,
     /// What is published.
     pub message: Message,
+}
+
+impl Drop for Will {
+    fn drop(self) {
+        let Will {
+            topic,
+            qos: _,
+            retain: _,
+            message,
+        } = self;
+        drop(topic);
+        drop(message);
+    }
 }
 
 impl WillTopic {

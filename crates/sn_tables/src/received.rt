@@ -15,9 +15,15 @@ use std::alloc::Global;
 use std::marker::Model;
 
 /// Message ids: at most 256, strictly ascending. Contracts see the list of them.
-#[derive(Drop)]
 pub struct Received {
     ids: Vec<u16>,
+}
+
+impl Drop for Received {
+    fn drop(self) {
+        let Received { ids } = self;
+        drop(ids);
+    }
 }
 
 impl Model for Received {

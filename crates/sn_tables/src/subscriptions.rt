@@ -42,9 +42,15 @@ impl Subscription {
 
 /// The subscriptions of a session: at most 256, strictly ascending by the octets of their filters.
 /// Contracts see the list of them.
-#[derive(Drop)]
 pub struct Subscriptions {
     entries: Vec<Subscription>,
+}
+
+impl Drop for Subscriptions {
+    fn drop(self) {
+        let Subscriptions { entries } = self;
+        drop(entries);
+    }
 }
 
 impl Model for Subscriptions {

@@ -42,9 +42,15 @@ impl TopicEntry {
 
 /// The topic ids of a session: at most 256, strictly ascending. Contracts see the list of the
 /// entries.
-#[derive(Drop)]
 pub struct Topics {
     entries: Vec<TopicEntry>,
+}
+
+impl Drop for Topics {
+    fn drop(self) {
+        let Topics { entries } = self;
+        drop(entries);
+    }
 }
 
 impl Model for Topics {

@@ -14,9 +14,15 @@ use std::marker::Model;
 
 /// Which topics a client asks for: 1 to 256 octets, in which a wildcard stands alone in its level
 /// and `#` in the last level only. Contracts see it as the list of its octets.
-#[derive(Drop)]
 pub struct Filter {
     octets: Octets,
+}
+
+impl Drop for Filter {
+    fn drop(self) {
+        let Filter { octets } = self;
+        drop(octets);
+    }
 }
 
 impl Model for Filter {

@@ -13,9 +13,16 @@ use std::marker::Model;
 
 /// The name of a topic: 1 to 256 octets without a wildcard. Contracts see it as the list of its
 /// octets.
-#[derive(Debug, Drop)]
+#[derive(Debug)]
 pub struct TopicName {
     octets: Octets,
+}
+
+impl Drop for TopicName {
+    fn drop(self) {
+        let TopicName { octets } = self;
+        drop(octets);
+    }
 }
 
 impl Model for TopicName {

@@ -17,9 +17,15 @@ pub const MAX_TOPIC_ID: u16 = 65534;
 /// Predefined topic ids with their names (MQTT-SN 1.2 section 6.7). Contracts see the list of the
 /// entries in the order in which they were given. Each look-up reads the entries from the front,
 /// since tables are small.
-#[derive(Drop)]
 pub struct Predefined {
     entries: Vec<(u16, TopicName)>,
+}
+
+impl Drop for Predefined {
+    fn drop(self) {
+        let Predefined { entries } = self;
+        drop(entries);
+    }
 }
 
 impl Model for Predefined {

@@ -37,7 +37,6 @@ pub enum Verdict {
 
 /// Which client ids have come in. The ids are kept for the life of a field, so neither a sensor
 /// that has another id each day nor a stranger is to use them up. Only the reader's thread asks it.
-#[derive(Drop)]
 pub struct Admission {
     /// The patterns of the ids that come in: all, where there is none.
     patterns: Vec<Octets>,
@@ -49,6 +48,20 @@ pub struct Admission {
     looked: u64,
     /// Since which second newcomers are counted, and how many came in since then.
     counted: (u64, u16),
+}
+
+impl Drop for Admission {
+    fn drop(self) {
+        let Admission {
+            patterns,
+            newcomers: _,
+            known,
+            looked: _,
+            counted: _,
+        } = self;
+        drop(patterns);
+        drop(known);
+    }
 }
 
 impl Admission {

@@ -86,12 +86,19 @@ const GATEWAYS: usize = 256;
 const DIALS: usize = FIRST_GATEWAY + GATEWAYS;
 
 /// What the threads of the program share.
-#[derive(Drop)]
 pub struct Shared {
     /// The links, and the gateway's clock.
     pub pool: Pool<TcpStream>,
     /// What is counted.
     pub board: Board,
+}
+
+impl Drop for Shared {
+    fn drop(self) {
+        let Shared { pool, board } = self;
+        drop(pool);
+        drop(board);
+    }
 }
 
 /// The clients at a glance, and how many messages of each gateway are known.
@@ -108,7 +115,6 @@ pub struct Field {
 }
 
 /// What is counted of the running gateway.
-#[derive(Drop)]
 pub struct Board {
     /// Whether anybody watches. If nobody does, no more is done than to count.
     pub is_watched: bool,
@@ -118,6 +124,20 @@ pub struct Board {
     field: Mutex<Option<Field>>,
     /// The calls of closed shifts, until they are taken away.
     calls: Mutex<Vec<Sequence<Sample>>>,
+}
+
+impl Drop for Board {
+    fn drop(self) {
+        let Board {
+            is_watched: _,
+            counts,
+            field,
+            calls,
+        } = self;
+        drop(counts);
+        drop(field);
+        drop(calls);
+    }
 }
 
 /// Puts so many numbers, each 0. Whether there was memory for them.

@@ -31,7 +31,6 @@ const LARGEST_WRITE: usize = 65_536;
 
 /// Somebody who asks the page. Only the watcher's thread has callers, and serves them without a
 /// lock.
-#[derive(Drop)]
 pub struct Caller {
     stream: TcpStream,
     /// The millisecond in which the call was taken.
@@ -48,6 +47,24 @@ pub struct Caller {
     told: Option<u64>,
     /// Whether the connection is to be closed.
     is_done: bool,
+}
+
+impl Drop for Caller {
+    fn drop(self) {
+        let Caller {
+            stream,
+            began: _,
+            request,
+            has_ended: _,
+            answer,
+            written: _,
+            told: _,
+            is_done: _,
+        } = self;
+        drop(stream);
+        drop(request);
+        drop(answer);
+    }
 }
 
 /// Takes those who call, as many as there is room for.

@@ -16,7 +16,6 @@ const MOST_DROPPED: u32 = 65_536;
 
 /// Where datagrams come from: the socket, and before it the one that came too late for its shift.
 /// The thread of shifts has it, which is the reader's in a shift.
-#[derive(Drop)]
 pub struct Inlet {
     /// The socket.
     pub socket: Socket,
@@ -26,6 +25,21 @@ pub struct Inlet {
     pub fence: Fence,
     /// Which clients are let in.
     pub admission: Admission,
+}
+
+impl Drop for Inlet {
+    fn drop(self) {
+        let Inlet {
+            socket,
+            late,
+            fence,
+            admission,
+        } = self;
+        drop(socket);
+        drop(late);
+        drop(fence);
+        drop(admission);
+    }
 }
 
 impl Inlet {

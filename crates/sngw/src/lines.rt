@@ -49,12 +49,25 @@ struct Waiting {
 
 /// The lines of an output that wait to be printed. Any thread puts them there, under their lock,
 /// and one prints them, without it.
-#[derive(Drop)]
 pub(crate) struct Lines {
     host: HostRuntime,
     output: Output,
     waiting: Mutex<Waiting>,
     changed: Condvar,
+}
+
+impl Drop for Lines {
+    fn drop(self) {
+        let Lines {
+            host,
+            output: _,
+            waiting,
+            changed,
+        } = self;
+        drop(host);
+        drop(waiting);
+        drop(changed);
+    }
 }
 
 /// The lines of both outputs.

@@ -85,12 +85,19 @@ struct Opened {
 }
 
 /// What the gateway listens at.
-#[derive(Drop)]
 struct Listeners {
     /// Where other gateways dial.
     link: TcpListener,
     /// Where it is watched, if it is.
     status: Option<TcpListener>,
+}
+
+impl Drop for Listeners {
+    fn drop(self) {
+        let Listeners { link, status } = self;
+        drop(link);
+        drop(status);
+    }
 }
 
 /// Opens all that a gateway is reached by.

@@ -27,7 +27,6 @@ const IDLE_WAIT_MS: u64 = 50;
 const GATHER_INTERVAL_MS: u64 = 1_000;
 
 /// What the thread holds.
-#[derive(Drop)]
 struct Watcher {
     report: Report,
     gathered: Gathered,
@@ -37,6 +36,23 @@ struct Watcher {
     piece: Vec<u8>,
     /// The millisecond in which it was last gathered.
     looked: u64,
+}
+
+impl Drop for Watcher {
+    fn drop(self) {
+        let Watcher {
+            report,
+            gathered,
+            happened: _,
+            callers,
+            piece,
+            looked: _,
+        } = self;
+        drop(report);
+        drop(gathered);
+        drop(callers);
+        drop(piece);
+    }
 }
 
 /// Shows the gateway until the program's work is over. Runs in the watcher's thread, and holds no

@@ -15,11 +15,22 @@ use std::mem;
 const LATEST: u64 = 1_000_000_000;
 
 /// A bridge of the rows, and the second.
-#[derive(Drop)]
 pub(crate) struct Stage {
     pub(crate) settings: Settings,
     pub(crate) bridge: Bridge,
     pub(crate) second: u64,
+}
+
+impl Drop for Stage {
+    fn drop(self) {
+        let Stage {
+            settings,
+            bridge,
+            second: _,
+        } = self;
+        drop(settings);
+        drop(bridge);
+    }
 }
 
 /// How many lanes a bridge has, its window, and the room of its spool, if it has one.

@@ -15,10 +15,17 @@ use std::alloc::Global;
 use std::mem;
 
 /// A prefix of a broker's topics, and a field's topic.
-#[derive(Drop)]
 pub(crate) struct Maps {
     prefix: Prefix,
     name: TopicName,
+}
+
+impl Drop for Maps {
+    fn drop(self) {
+        let Maps { prefix, name } = self;
+        drop(prefix);
+        drop(name);
+    }
 }
 
 impl Made for Maps {
@@ -272,10 +279,17 @@ fn command(alloc: Global) -> Result<Command, NoMemory> {
 }
 
 /// Readings, and the deltas of a spool that has them.
-#[derive(Drop)]
 pub(crate) struct Spools {
     items: Vec<Item>,
     deltas: Vec<Delta>,
+}
+
+impl Drop for Spools {
+    fn drop(self) {
+        let Spools { items, deltas } = self;
+        drop(items);
+        drop(deltas);
+    }
 }
 
 impl Made for Spools {

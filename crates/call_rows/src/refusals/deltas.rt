@@ -35,11 +35,19 @@ impl Calls for Clients {
 }
 
 /// What is copied, read and written.
-#[derive(Drop)]
 pub(crate) struct Deltas {
     delta: Delta,
     octets: Vec<u8>,
     out: Vec<u8>,
+}
+
+impl Drop for Deltas {
+    fn drop(self) {
+        let Deltas { delta, octets, out } = self;
+        drop(delta);
+        drop(octets);
+        drop(out);
+    }
 }
 
 impl Made for Deltas {

@@ -9,12 +9,26 @@ use rep_model::Replica;
 use rep_ops::OpsFault;
 
 /// A replica, a digest that is answered, read and written, and its octets.
-#[derive(Drop)]
 pub(crate) struct Digests<R: Replica> {
     replica: R,
     digest: Digest,
     octets: Vec<u8>,
     out: Vec<u8>,
+}
+
+impl<R: Replica> Drop for Digests<R> {
+    fn drop(self) {
+        let Digests {
+            replica,
+            digest,
+            octets,
+            out,
+        } = self;
+        drop(replica);
+        drop(digest);
+        drop(octets);
+        drop(out);
+    }
 }
 
 impl<R: Replica> Made for Digests<R> {

@@ -15,11 +15,23 @@ const LONG: [&str; 2] = ["01000c16", "6162636465666768"];
 
 /// A datagram that is read; and a PUBLISH with so many octets of message, of which the first one
 /// needs three octets of Length and the second one does not. It is written after two octets.
-#[derive(Drop)]
 pub(crate) struct Frames {
     datagram: Vec<u8>,
     frame: Frame,
     out: Vec<u8>,
+}
+
+impl Drop for Frames {
+    fn drop(self) {
+        let Frames {
+            datagram,
+            frame,
+            out,
+        } = self;
+        drop(datagram);
+        drop(frame);
+        drop(out);
+    }
 }
 
 impl Made for Frames {

@@ -114,13 +114,26 @@ fn look_closed(said: &mut Said, is_starved: bool, fault: &NodeFault) {
 }
 
 /// A gateway, a call of it, and what it keeps.
-#[derive(Drop)]
 pub(crate) struct Gateways<R: Replica> {
     node: Gateway<R>,
     step: Step,
     stood: Vec<u8>,
     /// Whether the client is connected.
     is_connected: bool,
+}
+
+impl<R: Replica> Drop for Gateways<R> {
+    fn drop(self) {
+        let Gateways {
+            node,
+            step,
+            stood,
+            is_connected: _,
+        } = self;
+        drop(node);
+        drop(step);
+        drop(stood);
+    }
 }
 
 impl<R: Replica> Made for Gateways<R> {

@@ -52,10 +52,17 @@ fn look_closed(said: &mut Said, is_starved: bool, fault: &JournalFault) {
 }
 
 /// Records that are to be written at once, and the delta of one more.
-#[derive(Drop)]
 pub(crate) struct Batches {
     records: Records,
     delta: Delta,
+}
+
+impl Drop for Batches {
+    fn drop(self) {
+        let Batches { records, delta } = self;
+        drop(records);
+        drop(delta);
+    }
 }
 
 impl Made for Batches {
@@ -84,12 +91,26 @@ impl Calls for Batches {
 }
 
 /// A journal, and what is appended to it or is its new base. After a call it is closed.
-#[derive(Drop)]
 pub(crate) struct Journals {
     journal: Option<Journal<MemoryDisk>>,
     delta: Delta,
     base: Vec<Delta>,
     records: Records,
+}
+
+impl Drop for Journals {
+    fn drop(self) {
+        let Journals {
+            journal,
+            delta,
+            base,
+            records,
+        } = self;
+        drop(journal);
+        drop(delta);
+        drop(base);
+        drop(records);
+    }
 }
 
 impl Made for Journals {

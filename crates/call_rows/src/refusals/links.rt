@@ -17,11 +17,23 @@ const REST: [&str; 3] = [
 ];
 
 /// A link, the piece that comes in over it, and the message that goes out.
-#[derive(Drop)]
 pub(crate) struct Links {
     link: LinkIn,
     piece: Vec<u8>,
     message: LinkMessage,
+}
+
+impl Drop for Links {
+    fn drop(self) {
+        let Links {
+            link,
+            piece,
+            message,
+        } = self;
+        drop(link);
+        drop(piece);
+        drop(message);
+    }
 }
 
 impl Made for Links {

@@ -13,10 +13,17 @@ use std::alloc::AllocError;
 pub(crate) const HERE: Addr = Addr { host: 0, port: 7 };
 
 /// What a gateway is told, and what it knows.
-#[derive(Drop)]
 pub(crate) struct Locals {
     config: Config,
     dialogs: Dialogs,
+}
+
+impl Drop for Locals {
+    fn drop(self) {
+        let Locals { config, dialogs } = self;
+        drop(config);
+        drop(dialogs);
+    }
 }
 
 impl Made for Locals {

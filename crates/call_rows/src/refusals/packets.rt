@@ -13,12 +13,26 @@ const PUBLISH: [&str; 2] = ["3005000174", "6162"];
 const SUBSCRIBE: [&str; 2] = ["82080007", "0003742f2301"];
 
 /// A packet as octets and as a value; octets after which one is written; and a connection.
-#[derive(Drop)]
 pub(crate) struct Packets {
     octets: Vec<u8>,
     packet: Packet,
     out: Vec<u8>,
     stream: PacketIn,
+}
+
+impl Drop for Packets {
+    fn drop(self) {
+        let Packets {
+            octets,
+            packet,
+            out,
+            stream,
+        } = self;
+        drop(octets);
+        drop(packet);
+        drop(out);
+        drop(stream);
+    }
 }
 
 impl Made for Packets {

@@ -26,11 +26,23 @@ const NEXT: [&str; 10] = [
 ];
 
 /// A replica, a delta that it takes, and the octets of what it keeps.
-#[derive(Drop)]
 pub(crate) struct Replicas<R: Replica> {
     replica: R,
     next: Delta,
     stood: Vec<u8>,
+}
+
+impl<R: Replica> Drop for Replicas<R> {
+    fn drop(self) {
+        let Replicas {
+            replica,
+            next,
+            stood,
+        } = self;
+        drop(replica);
+        drop(next);
+        drop(stood);
+    }
 }
 
 impl<R: Replica> Made for Replicas<R> {

@@ -15,12 +15,25 @@ use std::thread::{self, Threads};
 use std::time::Clock;
 
 /// A wire that brings one SEARCHGW, and then nothing. It takes no memory.
-#[derive(Drop)]
 struct Brief {
     is_left: bool,
     failures: Failures,
     arrivals: Tally,
     drops: Tally,
+}
+
+impl Drop for Brief {
+    fn drop(self) {
+        let Brief {
+            is_left: _,
+            failures,
+            arrivals,
+            drops,
+        } = self;
+        drop(failures);
+        drop(arrivals);
+        drop(drops);
+    }
 }
 
 impl Brief {

@@ -21,11 +21,22 @@ const CHANGES: [&str; 7] = [
 ];
 
 /// A session, changes, and how many of them it has.
-#[derive(Drop)]
 pub(crate) struct Sessions {
     session: Session,
     changes: Delta,
     done: usize,
+}
+
+impl Drop for Sessions {
+    fn drop(self) {
+        let Sessions {
+            session,
+            changes,
+            done: _,
+        } = self;
+        drop(session);
+        drop(changes);
+    }
 }
 
 impl Made for Sessions {

@@ -48,13 +48,28 @@ tick: 08040401003c7331 0812200002742f61 080c200001000478 > tick
 ";
 
 /// A gateway without a journal, its client, and what comes when the call is made.
-#[derive(Drop)]
 pub(crate) struct Steps<R: Replica> {
     config: Config,
     replica: R,
     dialogs: Dialogs,
     client: ClientId,
     last: &'static str,
+}
+
+impl<R: Replica> Drop for Steps<R> {
+    fn drop(self) {
+        let Steps {
+            config,
+            replica,
+            dialogs,
+            client,
+            last: _,
+        } = self;
+        drop(config);
+        drop(replica);
+        drop(dialogs);
+        drop(client);
+    }
 }
 
 /// What comes before a call, and what comes then.

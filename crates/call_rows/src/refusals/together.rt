@@ -22,10 +22,17 @@ const CALLS: usize = 3;
 const FRAMES: [&str; CALLS] = [SUBSCRIBE, "07122200016162", "0216"];
 
 /// A gateway at which the client is connected, and the calls that are left.
-#[derive(Drop)]
 pub(crate) struct Togethers<R: Replica> {
     node: Gateway<R>,
     steps: Vec<Arc<Step>>,
+}
+
+impl<R: Replica> Drop for Togethers<R> {
+    fn drop(self) {
+        let Togethers { node, steps } = self;
+        drop(node);
+        drop(steps);
+    }
 }
 
 impl<R: Replica> Made for Togethers<R> {

@@ -5,11 +5,23 @@ use crate::refusals::said::{Said, Stop};
 use sn_topic::{Filter, Predefined, TopicFault, TopicName};
 
 /// What is copied.
-#[derive(Drop)]
 pub(crate) struct Topics {
     name: TopicName,
     filter: Filter,
     table: Predefined,
+}
+
+impl Drop for Topics {
+    fn drop(self) {
+        let Topics {
+            name,
+            filter,
+            table,
+        } = self;
+        drop(name);
+        drop(filter);
+        drop(table);
+    }
 }
 
 impl Made for Topics {

@@ -14,11 +14,18 @@ use std::alloc::Global;
 use std::mem;
 
 /// A disk, or the journal on it while that is open.
-#[derive(Drop)]
 pub(crate) struct Store {
     /// The disk while no journal is open on it.
     disk: MemoryDisk,
     journal: Option<Journal<MemoryDisk>>,
+}
+
+impl Drop for Store {
+    fn drop(self) {
+        let Store { disk, journal } = self;
+        drop(disk);
+        drop(journal);
+    }
 }
 
 /// An empty disk.

@@ -12,10 +12,17 @@ use rep_plain::Plain;
 use rep_state::Folded;
 
 /// The two replicas.
-#[derive(Drop)]
 pub(crate) struct Pair {
     pub(crate) plain: Plain,
     pub(crate) folded: Folded,
+}
+
+impl Drop for Pair {
+    fn drop(self) {
+        let Pair { plain, folded } = self;
+        drop(plain);
+        drop(folded);
+    }
 }
 
 /// How many deltas both took or refused, and after how many of them they said the same.

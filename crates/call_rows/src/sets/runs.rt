@@ -5,10 +5,17 @@ use std::alloc::Global;
 use std::mem;
 
 /// An answer that is being written, and the one before it.
-#[derive(Drop)]
 pub(crate) struct Answers {
     pub(crate) said: Page,
     before: Page,
+}
+
+impl Drop for Answers {
+    fn drop(self) {
+        let Answers { said, before } = self;
+        drop(said);
+        drop(before);
+    }
 }
 
 impl Answers {

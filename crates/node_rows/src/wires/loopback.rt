@@ -33,10 +33,17 @@ const HOME: Addr = Addr {
 const ROOM: usize = 64;
 
 /// What is asked: a first datagram, and another one once it is answered.
-#[derive(Drop)]
 pub(crate) struct Questions {
     pub(crate) first: Vec<u8>,
     pub(crate) second: Vec<u8>,
+}
+
+impl Drop for Questions {
+    fn drop(self) {
+        let Questions { first, second } = self;
+        drop(first);
+        drop(second);
+    }
 }
 
 /// The socket of somebody who asks, and what is asked.

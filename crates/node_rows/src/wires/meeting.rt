@@ -32,7 +32,6 @@ pub(crate) struct Deed {
 }
 
 /// What happens.
-#[derive(Drop)]
 enum Act {
     /// A datagram of these octets comes, from port 1 of a host.
     Ask(u32, Vec<u8>),
@@ -50,8 +49,21 @@ enum Act {
     Takes(u64),
 }
 
+impl Drop for Act {
+    fn drop(self) {
+        match self {
+            Act::Ask(_, inner) => drop(inner),
+            Act::Come(inner) => drop(inner),
+            Act::Talk(_) => {}
+            Act::Sit => {}
+            Act::Turn => {}
+            Act::Idle(_) => {}
+            Act::Takes(_) => {}
+        }
+    }
+}
+
 /// A gateway in its shift.
-#[derive(Drop)]
 struct OpenShift {
     /// The memory.
     alloc: Global,
@@ -65,6 +77,21 @@ struct OpenShift {
     seat: Option<Pass>,
 }
 
+impl Drop for OpenShift {
+    fn drop(self) {
+        let OpenShift {
+            alloc: _,
+            number: _,
+            shift,
+            pass,
+            seat,
+        } = self;
+        drop(shift);
+        drop(pass);
+        drop(seat);
+    }
+}
+
 /// A gateway's end of a link.
 #[derive(Drop)]
 struct Tie<'a, S: Drop> {
@@ -76,13 +103,21 @@ struct Tie<'a, S: Drop> {
 }
 
 /// One of the gateways, with its ends of links.
-#[derive(Drop)]
 struct Side<'a, S: Drop> {
     open: OpenShift,
     /// What its links share.
     pool: Pool<S>,
     /// Its ends of links, that with the least number first.
     ties: VecDeque<Tie<'a, S>>,
+}
+
+impl<'a, S: Drop> Drop for Side<'a, S> {
+    fn drop(self) {
+        let Side { open, pool, ties } = self;
+        drop(open);
+        drop(pool);
+        drop(ties);
+    }
 }
 
 /// The ends of the links.

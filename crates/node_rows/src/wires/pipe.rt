@@ -9,7 +9,6 @@ use std::sync::atomic::{AtomicBool, AtomicU64, Ordering};
 use std::sync::{Mutex, Wait};
 
 /// One end of a link: how far its shifts are, what has come to it, and what it has said.
-#[derive(Drop)]
 pub(crate) struct Place {
     /// How far each of its shifts is: of the first, the second, the third, and of one after that.
     first: Stage,
@@ -28,6 +27,33 @@ pub(crate) struct Place {
     takes: AtomicU64,
     /// Memory ran out when something was said.
     is_short: AtomicBool,
+}
+
+impl Drop for Place {
+    fn drop(self) {
+        let Place {
+            first,
+            second,
+            third,
+            later,
+            turns,
+            coming,
+            said,
+            idle,
+            takes,
+            is_short,
+        } = self;
+        drop(first);
+        drop(second);
+        drop(third);
+        drop(later);
+        drop(turns);
+        drop(coming);
+        drop(said);
+        drop(idle);
+        drop(takes);
+        drop(is_short);
+    }
 }
 
 impl Place {
