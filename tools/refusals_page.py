@@ -87,6 +87,7 @@ FAULTS = {
     **dict.fromkeys([f"sn_deliver::{it}" for it in ("publish_in", "pubrel_in", "ack_in", "wake")], ROW),
     "sn_deliver::step": PLAN,
     "sn_exchange::deliver_next": PLAN,
+    "sn_exchange::visited": ROW,
     "sn_tick::tick": PLAN,
     "jr_journal::Journal::open": "Disk, Foreign, BadRecord, Memory | cause, fault, found | kept, leaves",
     "jr_journal::Journal::append": "Halted, Memory, Disk | halted, faults, cause | stays, refused, halts, torn",

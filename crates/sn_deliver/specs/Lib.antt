@@ -2,3 +2,4 @@ pub mod Acknowledging
 pub mod Serving
 pub mod Steps
 pub mod Waking
+pub mod inner

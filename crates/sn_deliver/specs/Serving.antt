@@ -7,21 +7,16 @@ use Rattle.sn_frame.specs.declared.frame.Frame.{Frame}
 use Rattle.sn_frame.specs.FlagBits.{qos_of}
 use Rattle.sn_local.specs.declared.config.Addr.{Addr}
 use Rattle.sn_plan.specs.declared.row.Row.{Row}
-use Rattle.sn_plan.specs.declared.row.Follow.TheVariants.{Delivery}
 use Rattle.sn_plan.specs.Drafts.{Drafted}
 use Rattle.sn_local.specs.Seen.{Seen}
 use Rattle.sn_local.specs.Bindings.{client_at}
 use Rattle.sn_local.specs.Locals.{Local}
 use Rattle.sn_plan.specs.Bound.{session_of}
-use Rattle.sn_plan.specs.Rows.{row_of, row_of_none, row_with_timer, turned_away}
+use Rattle.sn_plan.specs.Rows.{row_of_none, served, turned_away}
 use Rattle.sn_exchange.specs.declared.peer.Peer.{Peer}
 use Rattle.sn_exchange.specs.Following.{peer_at}
 use Rattle.sn_publish.specs.Publishing.{publish, publish_unconnected, pubrel}
 use Rattle.sn_deliver.specs.Acknowledging.{acknowledge}
-
--- a row of the bound client c, which was heard of; Delivery follows
-abbrev pub served : List ℕ → ℕ → Drafted → Row
-served c now d = row_with_timer (Some c) now (row_of Delivery c d)
 
 -- PUBLISH of the bound client; without one the address is turned away
 abbrev pub publish_of : Entries → Seen → Addr → Option (List ℕ) → ℕ → ℕ → ℕ → List ℕ → ℕ → Row

@@ -5,13 +5,12 @@ ghost use Rattle.std.specs.Option.{option_copied};
 ghost use Rattle.sn_plan.specs.Drafts.{nothing};
 ghost use Rattle.sn_deliver.specs.Acknowledging as spec;
 
-use super::drafting::finished;
 use octets::NoMemory;
 use rep_ops::Put;
 use sn_exchange::{Form, Peer, Visit, form_again, message_of, open_exchange, put_named, send};
 use sn_frame::{Frame, TopicIdType};
 use sn_local::LocalChange;
-use sn_plan::Draft;
+use sn_plan::{Draft, finished};
 use sn_session::{Outbound, Phase, Session, SessionOp};
 use sn_tables::TopicEntry;
 use sn_topic::{Predefined, TopicName};

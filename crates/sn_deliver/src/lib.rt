@@ -8,11 +8,9 @@
 //! - `waking`: a client comes back from sleep, here or from another gateway.
 //! - `acknowledging`: a client answers a message; `serve`: publications and answers as rows.
 //! - `table`: the row of each frame (`step`).
-//! - `drafting`: drafts that are written in one go.
 #![tactic(auto)]
 
 mod acknowledging;
-mod drafting;
 mod serve;
 mod table;
 mod waking;

@@ -1,12 +1,11 @@
 //! Waking: a client comes back from sleep, here or at another gateway (MQTT-SN 1.2 sections 6.11
 //! and 6.14).
 
-ghost use Rattle.std.specs.Prelude.{◌≡◌, ◌≤◌, length, IfOk, OnOk};
-ghost use Rattle.std.specs.Option.{option_copied};
+ghost use Rattle.std.specs.Prelude.{◌≡◌, Some, IfOk, OnOk};
 ghost use Rattle.rep_model.specs.Views.{view};
-ghost use Rattle.octets.specs.declared.client_id.TheConstants.{MAX_CLIENT_ID};
 ghost use Rattle.sn_plan.specs.declared.row.Follow.TheVariants.{Delivery};
 ghost use Rattle.sn_session.specs.declared.change.SessionOp.TheVariants.{Presence as SetPresence};
+ghost use Rattle.sn_local.specs.Bindings.{client_at};
 ghost use Rattle.sn_plan.specs.Bound.{bound_to};
 ghost use Rattle.sn_plan.specs.Drafts.{nothing, changed};
 ghost use Rattle.sn_plan.specs.Rows.{row_of};
@@ -15,14 +14,15 @@ ghost use Rattle.sn_plan.specs.Scenes.{seen_in};
 ghost use Rattle.rep_op.specs.ClientIds.{IsClientId};
 ghost use Rattle.sn_deliver.specs.Waking as spec;
 
-use super::drafting::finished;
 use octets::NoMemory;
 use rep_model::{ClientView, Replica};
 use rep_ops::{ClientId, OpsFault, Put};
 use sn_exchange::open_exchange;
 use sn_frame::Frame;
 use sn_local::{Addr, is_stamp_of};
-use sn_plan::{Draft, Follow, Row, Scene, bind_to, row_with_timer, turn_away, unseen, view_or};
+use sn_plan::{
+    Bound, Draft, Follow, Row, Scene, bind_to, finished, row_with_timer, turn_away, unseen, view_or,
+};
 use sn_session::{Presence, Session, SessionOp};
 use std::alloc::Global;
 
@@ -209,39 +209,18 @@ fn woken<R: Replica>(
     row
 }
 
-/// A PINGREQ without a client.
-fn wake_bound<R: Replica>(
+/// PINGREQ without a client's id: the bound client wakes.
+pub(crate) fn wake_bound<R: Replica>(
     alloc: Global,
     scene: &Scene<'_, R>,
-    bound: Option<&ClientId>,
+    bound: &Bound<'_>,
 ) -> Result<Row, NoMemory>
-    ensures { IfOk result (λ row. row ≡ spec.wake_of scene.now.config.now.gateway
-        (seen_in R.kept scene.now) scene.now.from (option_copied bound.entry) scene.now.moment) }
+    ensures { IfOk result (λ row. row ≡ rows.row_with_timer (Some bound.now.client.now)
+        scene.now.moment (spec.woken_if scene.now.config.now.gateway scene.now.from
+        bound.now.client.now bound.now.view.now scene.now.moment bound.now.view.now.session)) }
 {
-    match bound {
-        None => turn_away(alloc, scene.from),
-        Some(client) => {
-            let row = woken(alloc, scene, client)?;
-            row_with_timer(alloc, Some(client), scene.moment, row)
-        }
-    }
-}
-
-/// A PINGREQ with the id of a client.
-fn wake_client<R: Replica>(
-    alloc: Global,
-    scene: &Scene<'_, R>,
-    bound: Option<&ClientId>,
-    client: &[u8],
-) -> Result<Row, NoMemory>
-    requires { IsClientId client.now }
-    ensures { IfOk result (λ row. row ≡ rows.row_with_timer (option_copied bound.entry)
-        scene.now.moment (spec.woken scene.now.config.now.gateway (seen_in R.kept scene.now)
-        scene.now.from client.now scene.now.moment)) }
-{
-    let client = client_id(alloc, client)?;
-    let row = woken(alloc, scene, &client)?;
-    row_with_timer(alloc, bound, scene.moment, row)
+    let row = woken_view(alloc, scene, bound.client, bound.view)?;
+    row_with_timer(alloc, Some(bound.client), scene.moment, row)
 }
 
 /// The client of this name. It has the size that a name has, so nothing but memory can be wanting.
@@ -256,18 +235,21 @@ pub fn client_id(alloc: Global, octets: &[u8]) -> Result<ClientId, NoMemory>
     }
 }
 
-/// PINGREQ: with the id of a client it wakes that client, which is claimed from the gateway that
-/// has it; without, the one that is bound to the address.
+/// PINGREQ with the id of a client: it wakes here, and is claimed from the gateway that has it. The
+/// client that is bound to the address was heard of.
 pub fn wake<R: Replica>(alloc: Global, scene: &Scene<'_, R>, client: &[u8]) -> Result<Row, NoMemory>
-    requires { length client.now ≤ MAX_CLIENT_ID }
-    ensures { IfOk result (λ row. row ≡ spec.wake scene.now.config.now.gateway
-        (seen_in R.kept scene.now) scene.now.dialogs.now.local scene.now.from client.now
-        scene.now.moment) }
+    requires { IsClientId client.now }
+    ensures { IfOk result (λ row. row ≡ rows.row_with_timer
+        (client_at scene.now.from scene.now.dialogs.now.local.bindings) scene.now.moment
+        (spec.woken scene.now.config.now.gateway (seen_in R.kept scene.now) scene.now.from
+        client.now scene.now.moment)) }
 {
-    let bound = scene.dialogs.client_at(scene.from);
-    if client.is_empty() {
-        wake_bound(alloc, scene, bound)
-    } else {
-        wake_client(alloc, scene, bound, client)
-    }
+    let client = client_id(alloc, client)?;
+    let row = woken(alloc, scene, &client)?;
+    row_with_timer(
+        alloc,
+        scene.dialogs.client_at(scene.from),
+        scene.moment,
+        row,
+    )
 }

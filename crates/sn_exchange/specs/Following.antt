@@ -34,6 +34,18 @@ followed_for predefined seen a now d follow None = d
 followed_for predefined seen a now d follow (Some c) =
     followed_by predefined (peer_at a c now) (session_of seen c) (seen.of c).pending d follow
 
+-- a draft with what follows it, if the row has a client: the one that is visited
+abbrev pub followed_to :
+    Entries → Peer → Session → List Put → Drafted → Follow → Option (List ℕ) → Drafted
+followed_to predefined peer s pending d follow None = d
+followed_to predefined peer s pending d follow (Some c) =
+    followed_by predefined peer s pending d follow
+
+-- a row of the client that is visited, or of nobody, with what follows it
+abbrev pub visited : Entries → Peer → Session → List Put → Row → Row
+visited predefined peer s pending row =
+    record row { draft = followed_to predefined peer s pending row.draft row.follow row.client }
+
 -- a row with what follows it, for its client at that address
 abbrev pub followed : Entries → Seen → Addr → ℕ → Row → Row
 followed predefined seen a now row =

@@ -120,6 +120,48 @@ fn followed<R: Replica>(alloc: Global, scene: &Scene<'_, R>, row: Row) -> Result
     }
 }
 
+/// And then what follows, if the row has a client: the one that is visited.
+fn follow_to(
+    alloc: Global,
+    visit: &Visit<'_>,
+    client: &Option<ClientId>,
+    draft: &mut Draft,
+    follow: &Follow,
+) -> Result<(), NoMemory>
+    ensures { OnOk result (draft.new ≡ spec.followed_to visit.now.predefined.now
+        visit.now.peer.now visit.now.session.now visit.now.pending.now draft.old follow.now
+        client.now) }
+{
+    match client {
+        None => Ok(()),
+        Some(_) => follow_by(alloc, visit, draft, follow),
+    }
+}
+
+/// A row of the client that is visited, or of nobody, with what follows it.
+pub fn visited(alloc: Global, visit: &Visit<'_>, row: Row) -> Result<Row, NoMemory>
+    ensures { IfOk result (λ made. made ≡ spec.visited visit.now.predefined.now
+        visit.now.peer.now visit.now.session.now visit.now.pending.now row) }
+{
+    let Row {
+        client,
+        mut draft,
+        follow,
+    } = row;
+    match follow_to(alloc, visit, &client, &mut draft, &follow) {
+        Ok(()) => Ok(Row {
+            client,
+            draft,
+            follow,
+        }),
+        Err(fault) => {
+            drop(client);
+            drop(draft);
+            Err(fault)
+        }
+    }
+}
+
 /// The plan of a row with what follows it: Resend or Delivery, by the session as the row has
 /// changed it, and the messages that waited before the step and are not acknowledged by the row.
 pub fn deliver_next<R: Replica>(

@@ -19,7 +19,7 @@ pub use exchange::{
     is_awake, is_done, is_left, is_served, message_of, open_exchange, put_left, put_named,
     session_after,
 };
-pub use follow::{deliver_next, peer_at};
+pub use follow::{deliver_next, peer_at, visited};
 pub use form::{Form, form_again, form_of, publication};
 pub use peer::{Peer, Visit};
 pub use resend::then_resend;

@@ -82,12 +82,15 @@ disconnect_draft a c s None = leave a c s
 disconnect_draft a c s (Some duration) =
     if duration == 0 then leave a c s else fall_asleep a duration
 
+-- the row of DISCONNECT of the client c with this session; nothing follows
+abbrev pub left : Addr → List ℕ → Session → Option ℕ → ℕ → Row
+left a c s duration now =
+    row_with_timer (Some c) now (row_of Nothing c (disconnect_draft a c s duration))
+
 -- DISCONNECT from an address; without a bound client there it is turned away
 abbrev pub disconnect_of : Seen → Addr → Option (List ℕ) → Option ℕ → ℕ → Row
 disconnect_of seen a None duration now = turned_away a
-disconnect_of seen a (Some c) duration now =
-    row_with_timer (Some c) now
-    (row_of Nothing c (disconnect_draft a c (session_of seen c) duration))
+disconnect_of seen a (Some c) duration now = left a c (session_of seen c) duration now
 
 -- the row of DISCONNECT (6.12 and 6.14)
 abbrev pub disconnect : Seen → Local → Addr → Option ℕ → ℕ → Row

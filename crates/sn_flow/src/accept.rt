@@ -6,13 +6,12 @@ ghost use Rattle.sn_plan.specs.Drafts.{acked_all, nothing};
 ghost use Rattle.sn_flow.specs.Accept.{cleared};
 ghost use Rattle.sn_flow.specs.Accept as spec;
 
-use super::drafting::finished;
 use octets::NoMemory;
 use rep_model::rep_ops::{ClientId, Put};
 use rep_model::{ClientView, Replica};
 use sn_frame::Frame;
 use sn_local::{LocalChange, Request};
-use sn_plan::{ACCEPTED, Draft, bind_to};
+use sn_plan::{ACCEPTED, Draft, bind_to, finished};
 use sn_session::{Presence, Session, SessionOp, Will};
 use std::alloc::Global;
 

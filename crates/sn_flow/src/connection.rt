@@ -12,15 +12,14 @@ ghost use Rattle.sn_flow.specs.Connection.{has_bit};
 ghost use Rattle.sn_flow.specs.Connection as spec;
 
 use super::accept::{GivenWill, accept, has_no_room};
-use super::drafting::finished;
 use octets::NoMemory;
 use rep_model::rep_ops::ClientId;
 use rep_model::{ClientView, Replica};
 use sn_frame::{Flags, Frame};
 use sn_local::{Addr, Awaited, LocalChange, Request, WillDialog};
 use sn_plan::{
-    CONGESTION, Draft, Follow, NOT_SUPPORTED, Row, Scene, row_with_timer, session_or, turn_away,
-    unseen, view_or,
+    Bound, CONGESTION, Draft, Follow, NOT_SUPPORTED, Row, Scene, finished, row_with_timer, unseen,
+    view_or,
 };
 use sn_session::{Presence, Session, SessionOp};
 use std::alloc::Global;
@@ -264,36 +263,17 @@ fn disconnect_draft(
     }
 }
 
-/// A DISCONNECT of a bound client.
-fn disconnect_bound<R: Replica>(
-    alloc: Global,
-    scene: &Scene<'_, R>,
-    client: &ClientId,
-    duration: Option<u16>,
-) -> Result<Row, NoMemory>
-    ensures { IfOk result (λ row. row ≡ spec.disconnect_of (seen_in R.kept scene.now)
-        scene.now.from (Some client.now) duration scene.now.moment) }
-{
-    let empty = Session::empty(alloc);
-    let session = session_or(scene.replica, client, &empty);
-    let draft = disconnect_draft(alloc, scene.from, client, session, duration);
-    drop(empty);
-    let row = Row::new(alloc, Follow::Nothing, client, draft?)?;
-    row_with_timer(alloc, Some(client), scene.moment, row)
-}
-
-/// DISCONNECT: the client falls asleep, or leaves. From an address without binding it is answered
-/// and nothing else.
+/// DISCONNECT: the bound client falls asleep, or leaves.
 pub fn disconnect<R: Replica>(
     alloc: Global,
     scene: &Scene<'_, R>,
+    bound: &Bound<'_>,
     duration: Option<u16>,
 ) -> Result<Row, NoMemory>
-    ensures { IfOk result (λ row. row ≡ spec.disconnect (seen_in R.kept scene.now)
-        scene.now.dialogs.now.local scene.now.from duration scene.now.moment) }
+    ensures { IfOk result (λ row. row ≡ spec.left scene.now.from bound.now.client.now
+        bound.now.session.now duration scene.now.moment) }
 {
-    match scene.dialogs.client_at(scene.from) {
-        None => turn_away(alloc, scene.from),
-        Some(client) => disconnect_bound(alloc, scene, client, duration),
-    }
+    let draft = disconnect_draft(alloc, scene.from, bound.client, bound.session, duration)?;
+    let row = Row::new(alloc, Follow::Nothing, bound.client, draft)?;
+    row_with_timer(alloc, Some(bound.client), scene.moment, row)
 }

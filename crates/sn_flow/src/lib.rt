@@ -10,12 +10,10 @@
 //!   session.
 //! - `wills`: WILLTOPIC and WILLMSG, which a CONNECT asked for.
 //! - `will_update`: WILLTOPICUPD and WILLMSGUPD of a bound client, as drafts.
-//! - `drafting`: drafts that are written in one go.
 #![tactic(auto)]
 
 mod accept;
 mod connection;
-mod drafting;
 mod will_update;
 mod wills;
 

@@ -9,11 +9,10 @@ ghost use Rattle.sn_flow.specs.Connection.{has_bit};
 ghost use Rattle.sn_flow.specs.WillUpdate.{topic_accepted, topic_set, message_accepted};
 ghost use Rattle.sn_flow.specs.WillUpdate as spec;
 
-use super::drafting::finished;
 use octets::{NoMemory, Octets};
 use sn_frame::{Flags, Frame, Will};
 use sn_local::Addr;
-use sn_plan::{ACCEPTED, Draft, NOT_SUPPORTED, name_asked, qos_asked};
+use sn_plan::{ACCEPTED, Draft, NOT_SUPPORTED, finished, name_asked, qos_asked};
 use sn_session::{Message, Session, SessionOp, WillTopic};
 use sn_tables::QosLevel;
 use sn_topic::TopicName;

@@ -8,11 +8,12 @@ ghost use Rattle.sn_local.specs.declared.local.Awaited.TheVariants as waits;
 ghost use Rattle.sn_local.specs.declared.local.LocalChange.TheVariants.{Ask, EndDialog};
 ghost use Rattle.sn_plan.specs.Drafts.{nothing, sent, moved};
 ghost use Rattle.sn_plan.specs.Scenes.{seen_in};
-ghost use Rattle.sn_flow.specs.Wills.{dismissed, topic_update_of, message_update_of};
+ghost use Rattle.sn_plan.specs.Rows.{served};
+ghost use Rattle.sn_flow.specs.Wills.{dismissed};
+ghost use Rattle.sn_flow.specs.WillUpdate as updates;
 ghost use Rattle.sn_flow.specs.Wills as spec;
 
 use super::accept::{GivenWill, accept, has_no_room};
-use super::drafting::finished;
 use super::will_update::{
     topic_asked, will_msg_update as draft_message, will_topic_update as draft_topic,
 };
@@ -22,8 +23,8 @@ use rep_model::rep_ops::ClientId;
 use sn_frame::{Frame, Will};
 use sn_local::{Addr, Awaited, LocalChange, Request, WillDialog};
 use sn_plan::{
-    CONGESTION, Draft, Follow, NOT_SUPPORTED, Row, Scene, bound_row, row_with_timer, session_or,
-    turn_away, unexpected_row, unseen, view_or,
+    Bound, CONGESTION, Draft, Follow, NOT_SUPPORTED, Row, Scene, bound_row, finished,
+    row_with_timer, unexpected_row, unseen, view_or,
 };
 use sn_session::{Message, Session, Will as SessionWill, WillTopic};
 use std::alloc::Global;
@@ -237,63 +238,30 @@ pub fn will_msg<R: Replica>(
     }
 }
 
-/// A WILLTOPICUPD of a bound client.
-fn update_topic(
-    alloc: Global,
-    from: Addr,
-    client: &ClientId,
-    will: &Option<Will>,
-    now: u64,
-) -> Result<Row, NoMemory>
-    ensures { IfOk result (λ row. row ≡ topic_update_of from (Some client.now) will.now now) }
-{
-    let draft = draft_topic(alloc, from, will)?;
-    bound_row(alloc, client, now, draft)
-}
-
-/// WILLTOPICUPD: the topic of a bound client's will is another one, or the will is deleted.
+/// WILLTOPICUPD: the topic of the bound client's will is another one, or the will is deleted.
 pub fn will_topic_update<R: Replica>(
     alloc: Global,
     scene: &Scene<'_, R>,
+    bound: &Bound<'_>,
     will: &Option<Will>,
 ) -> Result<Row, NoMemory>
-    ensures { IfOk result (λ row. row ≡ spec.will_topic_update scene.now.dialogs.now.local
-        scene.now.from will.now scene.now.moment) }
+    ensures { IfOk result (λ row. row ≡ served bound.now.client.now scene.now.moment
+        (updates.will_topic_update scene.now.from will.now)) }
 {
-    match scene.dialogs.client_at(scene.from) {
-        None => turn_away(alloc, scene.from),
-        Some(client) => update_topic(alloc, scene.from, client, will, scene.moment),
-    }
+    let draft = draft_topic(alloc, scene.from, will)?;
+    bound_row(alloc, bound.client, scene.moment, draft)
 }
 
-/// A WILLMSGUPD of a bound client.
-fn update_message<R: Replica>(
-    alloc: Global,
-    scene: &Scene<'_, R>,
-    client: &ClientId,
-    message: &[u8],
-) -> Result<Row, NoMemory>
-    ensures { IfOk result (λ row. row ≡ message_update_of (seen_in R.kept scene.now)
-        scene.now.from (Some client.now) message.now scene.now.moment) }
-{
-    let empty = Session::empty(alloc);
-    let session = session_or(scene.replica, client, &empty);
-    let draft = draft_message(alloc, scene.from, session, message);
-    drop(empty);
-    bound_row(alloc, client, scene.moment, draft?)
-}
-
-/// WILLMSGUPD: the message of a bound client's will is another one.
+/// WILLMSGUPD: the message of the bound client's will is another one.
 pub fn will_msg_update<R: Replica>(
     alloc: Global,
     scene: &Scene<'_, R>,
+    bound: &Bound<'_>,
     message: &[u8],
 ) -> Result<Row, NoMemory>
-    ensures { IfOk result (λ row. row ≡ spec.will_msg_update (seen_in R.kept scene.now)
-        scene.now.dialogs.now.local scene.now.from message.now scene.now.moment) }
+    ensures { IfOk result (λ row. row ≡ served bound.now.client.now scene.now.moment
+        (updates.will_msg_update scene.now.from bound.now.session.now message.now)) }
 {
-    match scene.dialogs.client_at(scene.from) {
-        None => turn_away(alloc, scene.from),
-        Some(client) => update_message(alloc, scene, client, message),
-    }
+    let draft = draft_message(alloc, scene.from, bound.session, message)?;
+    bound_row(alloc, bound.client, scene.moment, draft)
 }

@@ -28,6 +28,10 @@ row_lasting moment row = record row { draft = lasting moment row.draft }
 abbrev pub row_with_timer : Option (List ℕ) → ℕ → Row → Row
 row_with_timer bound now row = record row { draft = heard_of bound now row.draft }
 
+-- a row of the bound client c, which was heard of; Delivery follows
+abbrev pub served : List ℕ → ℕ → Drafted → Row
+served c now d = row_with_timer (Some c) now (row_of Delivery c d)
+
 -- the plan of a draft for the client; without one that of what is retained, its messages, frames
 -- and local changes
 abbrev pub plan_for : ℕ → Seen → Drafted → Option (List ℕ) → Option Plan

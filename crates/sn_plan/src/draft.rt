@@ -1,6 +1,6 @@
 //! What a row of the step table says.
 
-ghost use Rattle.std.specs.Prelude.{◌≡◌, ◌≤◌, ◌++◌, [], map, OnOk, IfOk, IsTrue, ◌↔◌, Err};
+ghost use Rattle.std.specs.Prelude.{◌≡◌, ◌≤◌, ◌++◌, [], map, OnOk, IfOk, IsOk, IsTrue, ◌↔◌, Err};
 ghost use Rattle.sn_frame.specs.declared.frame.TheConstants.{MAX_FRAME};
 ghost use Rattle.sn_frame.specs.Bodies.{IsMessage};
 ghost use Rattle.sn_frame.specs.Grammar.{total_of, spelling};
@@ -262,4 +262,17 @@ fn extend_names(names: &mut Vec<(u64, u8)>, puts: &[Put]) -> Result<(), AllocErr
         names.push((put.seq, put.origin))?;
     }
     Ok(())
+}
+
+/// The draft, unless memory ran out while it was written.
+pub fn finished(draft: Draft, done: Result<(), NoMemory>) -> Result<Draft, NoMemory>
+    ensures { IfOk result (λ made. (made ≡ draft) × IsOk done) }
+{
+    match done {
+        Ok(()) => Ok(draft),
+        Err(fault) => {
+            drop(draft);
+            Err(fault)
+        }
+    }
 }

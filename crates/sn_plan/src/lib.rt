@@ -6,7 +6,7 @@
 //! own. The *plan* is the result: operations, frames to send, local changes. Nothing of it is done
 //! here: who carries it out keeps the operations before a frame is sent.
 //!
-//! - `scene`: what a row reads beside its frame (`Scene`).
+//! - `scene`: what a row reads beside its frame (`Scene`), and of the client that is bound (`Bound`).
 //! - `draft`, `row`: what a row says (`Draft`, `Row`); `bound`: of a client that is bound.
 //! - `numbering`, `plan`: from a draft to a plan (`Plan`).
 //! - `asking`, `codes`: what requests ask for, and how they are answered; `limits`: how much is let
@@ -28,7 +28,7 @@ mod scene;
 pub use asking::{Asked, id_in, name_asked, qos_asked, retain_asked, topics_asked};
 pub use bound::{bind_to, hear_of, session_in, session_or, unseen, view_or};
 pub use codes::{ACCEPTED, CONGESTION, INVALID_ID, NOT_SUPPORTED};
-pub use draft::{Draft, NewPut, Posted};
+pub use draft::{Draft, NewPut, Posted, finished};
 pub use limits::{MAX_PENDING, MAX_TOPICS};
 pub use numbering::apply;
 pub use others::{can_wake, is_up, other};
@@ -37,4 +37,4 @@ pub use row::{
     Follow, Row, bound_row, empty_row, lasting_row, plan_of_row, row_with_timer, turn_away,
     unexpected_row,
 };
-pub use scene::Scene;
+pub use scene::{Bound, Scene};

@@ -1,6 +1,6 @@
 //! A row of the step table: its client, its draft, and what follows it.
 
-ghost use Rattle.std.specs.Prelude.{◌≡◌, Some, IfOk};
+ghost use Rattle.std.specs.Prelude.{◌≡◌, IfOk};
 ghost use Rattle.std.specs.Option.{option_copied};
 ghost use Rattle.sn_local.specs.Seen.{seen_of};
 ghost use Rattle.sn_plan.specs.Plans.{GivesPlan};
@@ -108,8 +108,7 @@ pub fn row_with_timer(
 
 /// The row of a bound client: it was heard of, and Delivery follows.
 pub fn bound_row(alloc: Global, client: &ClientId, now: u64, draft: Draft) -> Result<Row, NoMemory>
-    ensures { IfOk result (λ row. row ≡ spec.row_with_timer (Some client.now) now
-        (spec.row_of follows.Delivery client.now draft)) }
+    ensures { IfOk result (λ row. row ≡ spec.served client.now now draft) }
 {
     let row = Row::new(alloc, Follow::Delivery, client, draft)?;
     row_with_timer(alloc, Some(client), now, row)

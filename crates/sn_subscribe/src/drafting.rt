@@ -1,6 +1,6 @@
 //! Drafts that are written in one go.
 
-ghost use Rattle.std.specs.Prelude.{◌≡◌, ◌≤◌, IfOk, IsOk, OnOk};
+ghost use Rattle.std.specs.Prelude.{◌≡◌, ◌≤◌, IfOk, OnOk};
 ghost use Rattle.sn_frame.specs.declared.frame.TheConstants.{MAX_FRAME};
 ghost use Rattle.sn_frame.specs.Bodies.{IsMessage};
 ghost use Rattle.sn_frame.specs.Grammar.{total_of};
@@ -9,22 +9,9 @@ ghost use Rattle.sn_plan.specs.Drafts.{nothing, changed_if, sent};
 use octets::NoMemory;
 use sn_frame::Frame;
 use sn_local::Addr;
-use sn_plan::Draft;
+use sn_plan::{Draft, finished};
 use sn_session::SessionOp;
 use std::alloc::Global;
-
-/// The draft, unless memory ran out while it was written.
-pub(crate) fn finished(draft: Draft, done: Result<(), NoMemory>) -> Result<Draft, NoMemory>
-    ensures { IfOk result (λ made. (made ≡ draft) × IsOk done) }
-{
-    match done {
-        Ok(()) => Ok(draft),
-        Err(fault) => {
-            drop(draft);
-            Err(fault)
-        }
-    }
-}
 
 /// A step that changes the session, where there is a change, and answers by a frame.
 pub(crate) fn answered(

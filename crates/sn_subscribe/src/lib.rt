@@ -3,8 +3,8 @@
 //!
 //! Rows of the step table, as those of `sn_flow` are.
 //!
-//! - `topic_rows`: REGISTER, SUBSCRIBE and UNSUBSCRIBE, of whoever sends them.
-//! - `registration`, `subscription`: the same of a bound client, as drafts.
+//! - `topic_rows`: REGISTER, SUBSCRIBE and UNSUBSCRIBE of a bound client, as rows.
+//! - `registration`, `subscription`: as drafts.
 //! - `handing`: what a subscriber is handed of what is retained.
 //! - `drafting`: drafts that are written in one go.
 #![tactic(auto)]
@@ -16,4 +16,5 @@ mod subscription;
 mod topic_rows;
 
 pub use registration::NamedId;
+pub use subscription::Asking;
 pub use topic_rows::{register, subscribe, unsubscribe};

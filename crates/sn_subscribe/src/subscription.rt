@@ -7,7 +7,7 @@ ghost use Rattle.sn_plan.specs.Drafts.{nothing, hand_all, sent};
 ghost use Rattle.sn_subscribe.specs.Subscription.{refused};
 ghost use Rattle.sn_subscribe.specs.Subscription as spec;
 
-use super::drafting::{answered, finished};
+use super::drafting::answered;
 use super::handing::handed_for;
 use super::registration::{NamedId, id_for};
 use octets::NoMemory;
@@ -15,8 +15,8 @@ use rep_model::Replica;
 use sn_frame::{Flags, Frame, TopicIdType};
 use sn_local::Addr;
 use sn_plan::{
-    ACCEPTED, Asked, CONGESTION, Draft, NOT_SUPPORTED, Posted, id_in, name_asked, qos_asked,
-    topics_asked,
+    ACCEPTED, Asked, CONGESTION, Draft, NOT_SUPPORTED, Posted, finished, id_in, name_asked,
+    qos_asked, topics_asked,
 };
 use sn_session::{Session, SessionOp};
 use sn_tables::QosLevel;

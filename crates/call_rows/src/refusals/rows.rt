@@ -84,6 +84,7 @@ pub(crate) const ROWS: &str = "
     sn_deliver::wake
     sn_deliver::step
     sn_exchange::deliver_next
+    sn_exchange::visited
     sn_tick::tick
     jr_journal::Journal::open
     jr_journal::Journal::append

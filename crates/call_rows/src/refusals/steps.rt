@@ -12,13 +12,14 @@ use octets::{NoMemory, Sequence};
 use rep_model::Replica;
 use rep_ops::{ClientId, Op};
 use sn_deliver::{ack_in, publish_in, pubrel_in, step, wake};
-use sn_exchange::deliver_next;
+use sn_exchange::{Peer, Visit, deliver_next, peer_at, visited};
 use sn_flow::{connect, disconnect, will_msg, will_msg_update, will_topic, will_topic_update};
-use sn_frame::{Frame, decode};
+use sn_frame::{Flags, Frame, decode};
 use sn_local::{Config, Dialogs, Send, StepFault};
-use sn_plan::{Plan, Row, Scene, other, plan_of_row};
+use sn_plan::{Bound, Plan, Row, Scene, other, plan_of_row, session_in, unseen, view_or};
 use sn_publish::Publication;
-use sn_subscribe::{register, subscribe, unsubscribe};
+use sn_session::Session;
+use sn_subscribe::{Asking, register, subscribe, unsubscribe};
 use sn_tick::tick;
 use std::alloc::Global;
 
@@ -44,6 +45,7 @@ publish_in: 08040401003c7331 0812200002742f61 > 080c200001000478
 pubrel_in: 08040401003c7331 090a00000001742f61 080c400001000578 > 04100005
 ack_in: 08040401003c7331 0812200002742f61 080c200001000478 tick > 070d0001000100
 deliver_next: 08040401003c7331 07122200026162 0418012c 080c626162000078 > 04167331
+visited: 08040401003c7331 07122200026162 0418012c 080c626162000078 > 04167331
 tick: 08040401003c7331 0812200002742f61 080c200001000478 > tick
 ";
 
@@ -107,6 +109,7 @@ impl<R: Replica> Calls for Steps<R> {
         match call {
             "step" | "tick" => self.step_once(said),
             "deliver_next" => self.deliver_once(said),
+            "visited" => self.visit_once(said),
             _ => self.row_once(said),
         }
     }
@@ -257,13 +260,44 @@ impl<R: Replica> Steps<R> {
         }
     }
 
+    /// Asks for the datagram's row with what follows it, by the view of its client.
+    fn visit_once(&self, said: &mut Said) {
+        if let Some(made) = self.row(said) {
+            if let Some(row) = beside(said, made) {
+                let made = self.visited(said.alloc, row);
+                self.show_made(said, made);
+            }
+        }
+    }
+
+    /// A row with what follows it, by the view of the client.
+    fn visited(&self, alloc: Global, row: Row) -> Result<Row, NoMemory> {
+        let empty = Session::empty(alloc);
+        let nobody = unseen(alloc);
+        let view = view_or(&self.replica, &self.client, &nobody);
+        let bound = Bound {
+            client: &self.client,
+            view,
+            session: session_in(view, &empty),
+        };
+        let made = visited_row(alloc, &self.scene(), &bound, row);
+        drop(empty);
+        drop(nobody);
+        made
+    }
+
     /// Asks for the row of the datagram, and prints its plan.
     fn row_once(&self, said: &mut Said) {
         if let Some(made) = self.row(said) {
-            match made {
-                Ok(row) => self.show_row(said, row),
-                Err(_) => said.refuse(true),
-            }
+            self.show_made(said, made);
+        }
+    }
+
+    /// Prints the plan of a row that was asked for.
+    fn show_made(&self, said: &mut Said, made: Result<Row, NoMemory>) {
+        match made {
+            Ok(row) => self.show_row(said, row),
+            Err(_) => said.refuse(true),
         }
     }
 
@@ -288,9 +322,25 @@ impl<R: Replica> Steps<R> {
         }
     }
 
+    /// The row of a frame, whose client is looked up if it is bound.
+    fn row_of(&self, alloc: Global, frame: &Frame) -> Result<Row, NoMemory> {
+        let empty = Session::empty(alloc);
+        let nobody = unseen(alloc);
+        let view = view_or(&self.replica, &self.client, &nobody);
+        let bound = Bound {
+            client: &self.client,
+            view,
+            session: session_in(view, &empty),
+        };
+        let row = self.row_by(alloc, &bound, frame);
+        drop(empty);
+        drop(nobody);
+        row
+    }
+
     /// The row of a frame. Each of the functions below knows some frames, and leaves all others to
     /// the next.
-    fn row_of(&self, alloc: Global, frame: &Frame) -> Result<Row, NoMemory> {
+    fn row_by(&self, alloc: Global, bound: &Bound<'_>, frame: &Frame) -> Result<Row, NoMemory> {
         let scene = self.scene();
         match frame {
             Frame::Connect {
@@ -299,26 +349,77 @@ impl<R: Replica> Steps<R> {
                 duration,
                 ..
             } => connect(alloc, &scene, *flags, *protocol, *duration, &self.client),
-            Frame::Disconnect { duration } => disconnect(alloc, &scene, *duration),
+            Frame::WillTopic { will } => will_topic(alloc, &scene, will),
+            Frame::WillMsg { message } => will_msg(alloc, &scene, message.as_slice()),
             Frame::PingReq { .. } => wake(alloc, &scene, b"s1"),
             Frame::SearchGw { .. } => other(alloc, &scene, frame),
-            frame => will_row_of(alloc, &scene, frame),
+            frame => session_row_of(alloc, &scene, bound, frame),
         }
     }
 }
 
-/// The row of a frame that is about a will.
-fn will_row_of<R: Replica>(
+/// The row of a frame that is about a session.
+fn session_row_of<R: Replica>(
     alloc: Global,
     scene: &Scene<'_, R>,
+    bound: &Bound<'_>,
     frame: &Frame,
 ) -> Result<Row, NoMemory> {
     match frame {
-        Frame::WillTopic { will } => will_topic(alloc, scene, will),
-        Frame::WillMsg { message } => will_msg(alloc, scene, message.as_slice()),
-        Frame::WillTopicUpd { will } => will_topic_update(alloc, scene, will),
-        Frame::WillMsgUpd { message } => will_msg_update(alloc, scene, message.as_slice()),
-        frame => message_row_of(alloc, scene, frame),
+        Frame::Disconnect { duration } => disconnect(alloc, scene, bound, *duration),
+        Frame::WillTopicUpd { will } => will_topic_update(alloc, scene, bound, will),
+        Frame::WillMsgUpd { message } => {
+            will_msg_update(alloc, scene, bound, message.as_slice())
+        }
+        Frame::PubAck { .. } => acknowledged(alloc, scene, bound, frame),
+        frame => message_row_of(alloc, scene, bound, frame),
+    }
+}
+
+/// The row of an acknowledgement.
+fn acknowledged<R: Replica>(
+    alloc: Global,
+    scene: &Scene<'_, R>,
+    bound: &Bound<'_>,
+    frame: &Frame,
+) -> Result<Row, NoMemory> {
+    match peer_at(alloc, scene.from, bound.client, scene.moment) {
+        Ok(peer) => {
+            let row = ack_in(alloc, &visit(scene, bound, &peer), frame);
+            drop(peer);
+            row
+        }
+        Err(fault) => Err(fault),
+    }
+}
+
+/// A row with what follows it.
+fn visited_row<R: Replica>(
+    alloc: Global,
+    scene: &Scene<'_, R>,
+    bound: &Bound<'_>,
+    row: Row,
+) -> Result<Row, NoMemory> {
+    match peer_at(alloc, scene.from, bound.client, scene.moment) {
+        Ok(peer) => {
+            let made = visited(alloc, &visit(scene, bound, &peer), row);
+            drop(peer);
+            made
+        }
+        Err(fault) => {
+            drop(row);
+            Err(fault)
+        }
+    }
+}
+
+/// What is read of a client.
+fn visit<'a, R: Replica>(scene: &Scene<'a, R>, bound: &Bound<'a>, peer: &'a Peer) -> Visit<'a> {
+    Visit {
+        predefined: &scene.config.predefined,
+        peer,
+        session: bound.session,
+        pending: bound.view.pending.as_slice(),
     }
 }
 
@@ -326,6 +427,7 @@ fn will_row_of<R: Replica>(
 fn message_row_of<R: Replica>(
     alloc: Global,
     scene: &Scene<'_, R>,
+    bound: &Bound<'_>,
     frame: &Frame,
 ) -> Result<Row, NoMemory> {
     match frame {
@@ -341,11 +443,10 @@ fn message_row_of<R: Replica>(
                 msg_id: *msg_id,
                 body,
             };
-            publish_in(alloc, scene, &publication)
+            publish_in(alloc, scene, bound, &publication)
         }
-        Frame::PubRel { msg_id } => pubrel_in(alloc, scene, *msg_id),
-        Frame::PubAck { .. } => ack_in(alloc, scene, frame),
-        frame => topic_row_of(alloc, scene, frame),
+        Frame::PubRel { msg_id } => pubrel_in(alloc, scene, bound, *msg_id),
+        frame => topic_row_of(alloc, scene, bound, frame),
     }
 }
 
@@ -353,21 +454,43 @@ fn message_row_of<R: Replica>(
 fn topic_row_of<R: Replica>(
     alloc: Global,
     scene: &Scene<'_, R>,
+    bound: &Bound<'_>,
     frame: &Frame,
 ) -> Result<Row, NoMemory> {
     match frame {
-        Frame::Register { msg_id, name, .. } => register(alloc, scene, *msg_id, name.as_slice()),
+        Frame::Register { msg_id, name, .. } => {
+            register(alloc, scene, bound, *msg_id, name.as_slice())
+        }
         Frame::Subscribe {
             flags,
             msg_id,
             topic,
-        } => subscribe(alloc, scene, *flags, *msg_id, topic.as_slice()),
+        } => subscribe(
+            alloc,
+            scene,
+            bound,
+            &asking(*flags, *msg_id, topic.as_slice()),
+        ),
         Frame::Unsubscribe {
             flags,
             msg_id,
             topic,
-        } => unsubscribe(alloc, scene, *flags, *msg_id, topic.as_slice()),
+        } => unsubscribe(
+            alloc,
+            scene,
+            bound,
+            &asking(*flags, *msg_id, topic.as_slice()),
+        ),
         _ => Err(NoMemory),
+    }
+}
+
+/// What a client asks for.
+fn asking(flags: Flags, msg_id: u16, field: &[u8]) -> Asking<'_> {
+    Asking {
+        flags,
+        msg_id,
+        field,
     }
 }
 

@@ -1,0 +1,2 @@
+-- What proofs stand on and no public clause cites.
+pub mod Parts
