@@ -12,7 +12,7 @@ use octets::{NoMemory, Sequence};
 use rep_model::Replica;
 use rep_ops::{ClientId, Op};
 use sn_deliver::{ack_in, publish_in, pubrel_in, step, wake};
-use sn_exchange::{Peer, Visit, deliver_next, peer_at, visited};
+use sn_exchange::{Visit, deliver_next, peer_at, visited};
 use sn_flow::{connect, disconnect, will_msg, will_msg_update, will_topic, will_topic_update};
 use sn_frame::{Flags, Frame, decode};
 use sn_local::{Config, Dialogs, Send, StepFault};
@@ -383,14 +383,14 @@ fn acknowledged<R: Replica>(
     bound: &Bound<'_>,
     frame: &Frame,
 ) -> Result<Row, NoMemory> {
-    match peer_at(alloc, scene.from, bound.client, scene.moment) {
-        Ok(peer) => {
-            let row = ack_in(alloc, &visit(scene, bound, &peer), frame);
-            drop(peer);
-            row
-        }
-        Err(fault) => Err(fault),
-    }
+    let peer = peer_at(alloc, scene.from, bound.client, scene.moment)?;
+    let visit = Visit {
+        predefined: &scene.config.predefined,
+        peer: &peer,
+        session: bound.session,
+        pending: bound.view.pending.as_slice(),
+    };
+    ack_in(alloc, &visit, frame)
 }
 
 /// A row with what follows it.
@@ -400,27 +400,20 @@ fn visited_row<R: Replica>(
     bound: &Bound<'_>,
     row: Row,
 ) -> Result<Row, NoMemory> {
-    match peer_at(alloc, scene.from, bound.client, scene.moment) {
-        Ok(peer) => {
-            let made = visited(alloc, &visit(scene, bound, &peer), row);
-            drop(peer);
-            made
-        }
+    let peer = match peer_at(alloc, scene.from, bound.client, scene.moment) {
+        Ok(peer) => peer,
         Err(fault) => {
             drop(row);
-            Err(fault)
+            return Err(fault);
         }
-    }
-}
-
-/// What is read of a client.
-fn visit<'a, R: Replica>(scene: &Scene<'a, R>, bound: &Bound<'a>, peer: &'a Peer) -> Visit<'a> {
-    Visit {
+    };
+    let visit = Visit {
         predefined: &scene.config.predefined,
-        peer,
+        peer: &peer,
         session: bound.session,
         pending: bound.view.pending.as_slice(),
-    }
+    };
+    visited(alloc, &visit, row)
 }
 
 /// The row of a frame that is about a message.
