@@ -13,3 +13,4 @@ pub mod Walking
 pub mod Indexed
 pub mod Contradicting
 pub mod Asking
+pub mod Pushing

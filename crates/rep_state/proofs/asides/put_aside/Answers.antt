@@ -1,6 +1,7 @@
 use Rattle.std.proofs.Common.{◌≡◌, ℕ, ◌+◌, Bool, true, false, List, sym, ap, subst, ◌∙◌, arith, Vec, Global}
 use Rattle.std.specs.Map.{lookup}
 use Rattle.std.specs.FinMap.{put}
+use Rattle.std.proofs.lemmas.Result.{IfOk-from_err}
 use Rattle.std.specs.Prelude.{bytes_eq}
 use Rattle.sn_tables.specs.Tables.{is_ascending, with_entry}
 use Rattle.rep_op.specs.Orders.{client_cmp}
@@ -8,7 +9,8 @@ use Rattle.rep_shared.specs.Rows.{has_any}
 use Rattle.rep_shared.proofs.Flat.{one_if}
 use Rattle.rep_entry.specs.declared.entry.Entry.{Entry}
 use Rattle.rep_entry.specs.Entries.{entry_row}
-use Rattle.rep_state.specs.Tables.{by_client, rows_of, IsEntryTable}
+use Rattle.rep_state.specs.Tables.{by_client, rows_of, IsEntryTable, ArePlaces}
+use Rattle.rep_state.specs.Interests.{AreMarked}
 use Rattle.rep_state.specs.inner.Tables.{place_cmp, IsSaving}
 use Rattle.rep_state.specs.declared.places.Place.{Place}
 use Rattle.rep_state.proofs.Rows.{put_by_client, found_by_client}
@@ -20,25 +22,52 @@ pub enter-requires-clause-order : goal.enter-requires-clause-order
 enter-requires-clause-order c =
     subst (λ places. is_ascending place_cmp places ≡ true) (sym c.in_ok-reserve.ensures.items) (places_pass c.args.aside.now.entries c.args.places.now.items c.requires.places)
 
-pub returns-in_err-reserve-clause-saving : goal.returns-in_err-reserve-clause-saving
-returns-in_err-reserve-clause-saving c = λ rows sorted there own. saving_itself rows (rows_of (by_client c.args.aside.now.entries))
+pub returns-in_err-reserve : goal.returns-in_err-reserve
+returns-in_err-reserve c = record {
+  table = c.requires.aside;
+  places = subst (ArePlaces c.args.aside.now.entries) (sym c.in_err-reserve.ensures.items) c.requires.places;
+  marks = subst (AreMarked (by_client c.args.aside.now.entries)) (sym c.in_err-reserve.ensures.items) c.requires.marks;
+  saving = λ rows sorted there own. saving_itself rows (rows_of (by_client c.args.aside.now.entries));
+  saved = IfOk-from_err c.from_residual.result _ c.from_residual.ensures.0;
+}
 
-pub returns-in_err-name-clause-saving : goal.returns-in_err-name-clause-saving
-returns-in_err-name-clause-saving c = λ rows sorted there own. saving_itself rows (rows_of (by_client c.args.aside.now.entries))
+pub returns-in_err-name : goal.returns-in_err-name
+returns-in_err-name c = record {
+  table = c.requires.aside;
+  places = subst (ArePlaces c.args.aside.now.entries) (sym c.in_ok-reserve.ensures.items) c.requires.places;
+  marks = subst (AreMarked (by_client c.args.aside.now.entries)) (sym c.in_ok-reserve.ensures.items) c.requires.marks;
+  saving = λ rows sorted there own. saving_itself rows (rows_of (by_client c.args.aside.now.entries));
+  saved = IfOk-from_err c.from_residual-in_err-name.result _ c.from_residual-in_err-name.ensures.0;
+}
 
-pub returns-in_err-key-clause-saving : goal.returns-in_err-key-clause-saving
-returns-in_err-key-clause-saving c = λ rows sorted there own. saving_itself rows (rows_of (by_client c.args.aside.now.entries))
+pub returns-in_err-key : goal.returns-in_err-key
+returns-in_err-key c = record {
+  table = c.requires.aside;
+  places = subst (ArePlaces c.args.aside.now.entries) (sym c.in_ok-reserve.ensures.items) c.requires.places;
+  marks = subst (AreMarked (by_client c.args.aside.now.entries)) (sym c.in_ok-reserve.ensures.items) c.requires.marks;
+  saving = λ rows sorted there own. saving_itself rows (rows_of (by_client c.args.aside.now.entries));
+  saved = IfOk-from_err c.from_residual-in_err-key.result _ c.from_residual-in_err-key.ensures.0;
+}
 
-pub returns-in_err-copy-clause-saving : goal.returns-in_err-copy-clause-saving
-returns-in_err-copy-clause-saving c = λ rows sorted there own. saving_itself rows (rows_of (by_client c.args.aside.now.entries))
+pub returns-in_err-copy : goal.returns-in_err-copy
+returns-in_err-copy c = record {
+  table = c.requires.aside;
+  places = subst (ArePlaces c.args.aside.now.entries) (sym c.in_ok-reserve.ensures.items) c.requires.places;
+  marks = subst (AreMarked (by_client c.args.aside.now.entries)) (sym c.in_ok-reserve.ensures.items) c.requires.marks;
+  saving = λ rows sorted there own. saving_itself rows (rows_of (by_client c.args.aside.now.entries));
+  saved = IfOk-from_err c.from_residual-in_err-copy.result _ c.from_residual-in_err-copy.ensures.0;
+}
 
-pub returns-in_err-insert-clause-saving : goal.returns-in_err-insert-clause-saving
-returns-in_err-insert-clause-saving c =
+pub returns-in_err-insert : goal.returns-in_err-insert
+returns-in_err-insert c =
     let old = c.args.aside.now.entries in
-    λ rows sorted there own. subst (λ (es : List (Vec ℕ Global × Entry)). IsSaving rows (rows_of (by_client old)) (rows_of (by_client es))) (sym c.in_err-insert.ensures.err) (saving_itself rows (rows_of (by_client old)))
-
-pub returns-in_err-insert-clause-table : goal.returns-in_err-insert-clause-table
-returns-in_err-insert-clause-table c = subst (λ (es : List (Vec ℕ Global × Entry)). IsEntryTable (by_client es) c.args.count.now) (sym c.in_err-insert.ensures.err) c.requires.aside
+    let same = sym c.in_err-insert.ensures.err in record {
+      table = subst (λ (es : List (Vec ℕ Global × Entry)). IsEntryTable (by_client es) c.args.count.now) same c.requires.aside;
+      places = subst (ArePlaces c.insert.new.self.entries) (sym c.in_ok-reserve.ensures.items) (subst (λ (es : List (Vec ℕ Global × Entry)). ArePlaces es c.args.places.now.items) same c.requires.places);
+      marks = subst (AreMarked (by_client c.insert.new.self.entries)) (sym c.in_ok-reserve.ensures.items) (subst (λ (es : List (Vec ℕ Global × Entry)). AreMarked (by_client es) c.args.places.now.items) same c.requires.marks);
+      saving = λ rows sorted there own. subst (λ (es : List (Vec ℕ Global × Entry)). IsSaving rows (rows_of (by_client old)) (rows_of (by_client es))) same (saving_itself rows (rows_of (by_client old)));
+      saved = IfOk-from_err c.from_residual-in_err-insert.result _ c.from_residual-in_err-insert.ensures.0;
+    }
 
 -- it has operations
 pub returns-then-has_operations-clause-table : goal.returns-then-has_operations-clause-table

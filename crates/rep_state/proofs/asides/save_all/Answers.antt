@@ -8,6 +8,7 @@ use Rattle.rep_entry.specs.Staging.{staged_of}
 use Rattle.rep_state.specs.Tables.{by_client, rows_of}
 use Rattle.rep_state.proofs.Staging.{staged_last}
 use Rattle.rep_state.proofs.Backs.{saving_itself, saving_then, saved_more, all_get, of_staged}
+use Rattle.std.proofs.lemmas.Result.{IfOk-from_err}
 use Rattle.rep_state.proofs.asides.save_all.Goals as goal
 
 pub loop-row-init : goal.loop-row-init
@@ -65,3 +66,15 @@ loop-row-preserved c =
       c.in_ok-save_one.ensures.places,
       c.in_ok-save_one.ensures.marks,
     )
+
+pub returns-in_err-save_one-clause-table : goal.returns-in_err-save_one-clause-table
+returns-in_err-save_one-clause-table c = c.in_err-save_one.ensures.table
+
+pub returns-in_err-save_one-clause-places : goal.returns-in_err-save_one-clause-places
+returns-in_err-save_one-clause-places c = c.in_err-save_one.ensures.places
+
+pub returns-in_err-save_one-clause-marks : goal.returns-in_err-save_one-clause-marks
+returns-in_err-save_one-clause-marks c = c.in_err-save_one.ensures.marks
+
+pub returns-in_err-save_one-clause-saved : goal.returns-in_err-save_one-clause-saved
+returns-in_err-save_one-clause-saved c = IfOk-from_err _ _ c.from_residual.ensures.0

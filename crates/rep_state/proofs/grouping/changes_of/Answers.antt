@@ -7,6 +7,7 @@ use Rattle.rep_state.specs.Tables.{by_client, rows_of}
 use Rattle.rep_state.specs.inner.Groups.{held_of, fresh_rows}
 use Rattle.rep_entry.specs.Staging.{staged_of}
 use Rattle.rep_state.specs.inner.Staging.{future}
+use Rattle.std.proofs.lemmas.Result.{IfOk-from_err}
 use Rattle.rep_state.proofs.grouping.changes_of.Goals as goal
 
 pub stage_client-requires-clause-fresh : goal.stage_client-requires-clause-fresh
@@ -22,3 +23,9 @@ loop-client-preserved c =
       c.in_ok-stage_client.ensures.worked_out c.loop-client.invariant.1,
       (subst (AllByRecursion (λ (g : List ℕ × Fresh). IsFresh g.0 (held_of g.0 es) g.1)) c.in-Some.ensures.steps.0 c.loop-client.invariant.2).1,
     )
+
+pub returns-in_err-made : goal.returns-in_err-made
+returns-in_err-made c = record { rows = IfOk-from_err _ _ c.from_residual.ensures.0; worked_out = IfOk-from_err _ _ c.from_residual.ensures.0 }
+
+pub returns-in_err-stage_client : goal.returns-in_err-stage_client
+returns-in_err-stage_client c = record { rows = IfOk-from_err _ _ c.from_residual-in_err-stage_client.ensures.0; worked_out = IfOk-from_err _ _ c.from_residual-in_err-stage_client.ensures.0 }

@@ -12,6 +12,7 @@ use Rattle.rep_entry.specs.Applied.{entry_applied}
 use Rattle.rep_state.proofs.Placing.{rows_last}
 use Rattle.rep_state.proofs.Staging.{staged_last, future_last}
 use Rattle.rep_entry.proofs.Applied.{row_applied}
+use Rattle.std.proofs.lemmas.Result.{IfOk-from_err}
 use Rattle.rep_state.proofs.grouping.stage_client.Goals as goal
 
 pub returns-in_ok-push-in-Ok-clause-rows : goal.returns-in_ok-push-in-Ok-clause-rows
@@ -43,3 +44,9 @@ returns-in_ok-push-in-Ok-clause-worked_out c =
     let is = subst (λ (e : Entry). IsChangeWorkedOut client (base_of e) change) held (record { change_is = c.in_ok-change.ensures.change client fresh; fit = c.in_ok-change.ensures.fit client fresh; counted = c.in_ok-change.ensures.counted client fresh }) in
     subst (AreChangesWorkedOut es) (sym (ap staged_of c.in_ok-push-in-Ok.ensures.items ∙ staged_last c.args.made.now.items (key, change)))
     (all-both (λ (g : List ℕ × Change). IsChangeWorkedOut g.0 (base_at g.0 es) g.1) (staged_of c.args.made.now.items) ((key.items, change) ∷ []) h (subst (λ (k : List ℕ). IsChangeWorkedOut k (base_at k es) change) (sym octets) is, tt))
+
+pub returns-in_err-change-clause-rows : goal.returns-in_err-change-clause-rows
+returns-in_err-change-clause-rows c = IfOk-from_err _ _ c.from_residual.ensures.0
+
+pub returns-in_err-change-clause-worked_out : goal.returns-in_err-change-clause-worked_out
+returns-in_err-change-clause-worked_out c = λ h. IfOk-from_err _ _ c.from_residual.ensures.0

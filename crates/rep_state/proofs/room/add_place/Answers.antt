@@ -4,7 +4,8 @@ use Rattle.std.specs.Map.{lookup}
 use Rattle.std.specs.FinMap.{find, put}
 use Rattle.std.specs.Prelude.{bytes_eq}
 use Rattle.rep_op.specs.Orders.{client_cmp}
-use Rattle.rep_state.specs.Tables.{by_client}
+use Rattle.rep_state.specs.Tables.{by_client, ArePlaces}
+use Rattle.rep_state.specs.Interests.{AreMarked}
 use Rattle.rep_state.specs.inner.Tables.{place_cmp, IsRoomier}
 use Rattle.rep_entry.specs.declared.entry.Entry.{Entry}
 use Rattle.rep_state.specs.declared.places.Place.{Place}
@@ -12,6 +13,7 @@ use Rattle.rep_state.proofs.Rows.{put_by_client, found_by_client}
 use Rattle.rep_state.proofs.Placing.{roomier_itself, roomier_place, place_there, empty_kept, some_there, none_there}
 use Rattle.rep_state.proofs.Indexed.{places_pass, places_with}
 use Rattle.rep_state.proofs.Asking.{marked_with}
+use Rattle.std.proofs.lemmas.Result.{IfOk-from_err}
 use Rattle.rep_state.proofs.room.add_place.Goals as goal
 
 pub returns-then-contains_key-clause-there : goal.returns-then-contains_key-clause-there
@@ -74,16 +76,37 @@ returns-clause-there c =
 pub returns-then-contains_key-clause-roomier : goal.returns-then-contains_key-clause-roomier
 returns-then-contains_key-clause-roomier c = roomier_itself (by_client c.args.table.now.entries)
 
-pub returns-in_err-reserve-clause-roomier : goal.returns-in_err-reserve-clause-roomier
-returns-in_err-reserve-clause-roomier c = roomier_itself (by_client c.args.table.now.entries)
+pub returns-in_err-reserve : goal.returns-in_err-reserve
+returns-in_err-reserve c = record {
+  places = subst (ArePlaces c.args.table.now.entries) (sym c.in_err-reserve.ensures.items) c.requires.places;
+  marks = subst (AreMarked (by_client c.args.table.now.entries)) (sym c.in_err-reserve.ensures.items) c.requires.marks;
+  roomier = roomier_itself (by_client c.args.table.now.entries);
+  there = IfOk-from_err _ _ c.from_residual.ensures.0;
+}
 
-pub returns-in_err-name-clause-roomier : goal.returns-in_err-name-clause-roomier
-returns-in_err-name-clause-roomier c = roomier_itself (by_client c.args.table.now.entries)
+pub returns-in_err-name : goal.returns-in_err-name
+returns-in_err-name c = record {
+  places = subst (ArePlaces c.args.table.now.entries) (sym c.in_ok-reserve.ensures.items) c.requires.places;
+  marks = subst (AreMarked (by_client c.args.table.now.entries)) (sym c.in_ok-reserve.ensures.items) c.requires.marks;
+  roomier = roomier_itself (by_client c.args.table.now.entries);
+  there = IfOk-from_err _ _ c.from_residual-in_err-name.ensures.0;
+}
 
-pub returns-in_err-key-clause-roomier : goal.returns-in_err-key-clause-roomier
-returns-in_err-key-clause-roomier c = roomier_itself (by_client c.args.table.now.entries)
+pub returns-in_err-key : goal.returns-in_err-key
+returns-in_err-key c = record {
+  places = subst (ArePlaces c.args.table.now.entries) (sym c.in_ok-reserve.ensures.items) c.requires.places;
+  marks = subst (AreMarked (by_client c.args.table.now.entries)) (sym c.in_ok-reserve.ensures.items) c.requires.marks;
+  roomier = roomier_itself (by_client c.args.table.now.entries);
+  there = IfOk-from_err _ _ c.from_residual-in_err-key.ensures.0;
+}
 
-pub returns-in_err-insert-clause-roomier : goal.returns-in_err-insert-clause-roomier
-returns-in_err-insert-clause-roomier c =
+pub returns-in_err-insert : goal.returns-in_err-insert
+returns-in_err-insert c =
     let old = c.args.table.now.entries in
-    subst (λ (es : List (Vec ℕ Global × Entry)). IsRoomier (by_client old) (by_client es)) (sym c.in_err-insert.ensures.err) (roomier_itself (by_client old))
+    let new = c.insert.new.self.entries in
+    let same = sym c.in_err-insert.ensures.err in record {
+      places = subst (ArePlaces new) (sym c.in_ok-reserve.ensures.items) (subst (λ (es : List (Vec ℕ Global × Entry)). ArePlaces es c.args.places.now.items) same c.requires.places);
+      marks = subst (AreMarked (by_client new)) (sym c.in_ok-reserve.ensures.items) (subst (λ (es : List (Vec ℕ Global × Entry)). AreMarked (by_client es) c.args.places.now.items) same c.requires.marks);
+      roomier = subst (λ (es : List (Vec ℕ Global × Entry)). IsRoomier (by_client old) (by_client es)) same (roomier_itself (by_client old));
+      there = IfOk-from_err _ _ c.from_residual-in_err-insert.ensures.0;
+    }

@@ -7,6 +7,7 @@ use Rattle.rep_entry.specs.Staging.{staged_of}
 use Rattle.rep_state.specs.inner.Staging.{HavePlaces}
 use Rattle.rep_state.proofs.Placing.{roomier_itself, roomier_then}
 use Rattle.rep_state.proofs.Staging.{staged_last, room_more}
+use Rattle.std.proofs.lemmas.Result.{IfOk-from_err}
 use Rattle.rep_state.proofs.room.make_room.Goals as goal
 
 pub loop-row-preserved : goal.loop-row-preserved
@@ -39,3 +40,12 @@ returns-clause-marks c = c.loop-row.invariant.3
 
 pub loop-row-init : goal.loop-row-init
 loop-row-init c = (roomier_itself (by_client c.args.table.now.entries), tt, c.requires.places, c.requires.marks)
+
+pub returns-in_err-add_place-clause-places : goal.returns-in_err-add_place-clause-places
+returns-in_err-add_place-clause-places c = c.in_err-add_place.ensures.places
+
+pub returns-in_err-add_place-clause-marks : goal.returns-in_err-add_place-clause-marks
+returns-in_err-add_place-clause-marks c = c.in_err-add_place.ensures.marks
+
+pub returns-in_err-add_place-clause-room : goal.returns-in_err-add_place-clause-room
+returns-in_err-add_place-clause-room c = IfOk-from_err _ _ c.from_residual.ensures.0

@@ -18,6 +18,7 @@ use Rattle.rep_state.proofs.Placing.{roomier_itself}
 use Rattle.rep_state.proofs.Working.{held_is, are_fresh, fresh_rows_of}
 use Rattle.rep_state.proofs.Fitting.{own_room, kept_after, first_passed_both, counted_after, fresh_fit}
 use Rattle.rep_state.proofs.Staging.{planned_future, future_worked_out, passed_future, count_future, are_staged, are_ready}
+use Rattle.std.proofs.lemmas.Result.{IfOk-from_err}
 use Rattle.rep_state.proofs.replica.FoldedClientsClientSet.prepare.Goals as goal
 
 pub check-requires-clause-rows : goal.check-requires-clause-rows
@@ -207,3 +208,51 @@ returns-clause-aside c =
     let room = rows_of (by_client c.make_room.new.table.entries) in
     λ aside can. subst (λ (rows : List (List ℕ × List Op)). CanGoBack rows aside → CanGoBack room aside × (flat (rows_with room aside) ≡ flat (rows_with rows aside))) c.self.view_is
     (c.in_ok-make_room.ensures.roomier.back c.self.inside.named c.self.invariant.0 aside) can
+
+pub returns-in_err-check-clause-fits : goal.returns-in_err-check-clause-fits
+returns-in_err-check-clause-fits c = IfOk-from_err _ _ c.from_residual.ensures.0
+
+pub returns-in_err-check-clause-ready : goal.returns-in_err-check-clause-ready
+returns-in_err-check-clause-ready c = IfOk-from_err _ _ c.from_residual.ensures.0
+
+pub returns-in_err-check-clause-clients : goal.returns-in_err-check-clause-clients
+returns-in_err-check-clause-clients c = IfOk-from_err _ _ c.from_residual.ensures.0
+
+pub returns-in_err-check-clause-taken : goal.returns-in_err-check-clause-taken
+returns-in_err-check-clause-taken c = IfOk-from_err _ _ c.from_residual.ensures.0
+
+pub returns-in_err-groups-clause-fits : goal.returns-in_err-groups-clause-fits
+returns-in_err-groups-clause-fits c = IfOk-from_err _ _ c.from_residual-in_err-groups.ensures.0
+
+pub returns-in_err-groups-clause-ready : goal.returns-in_err-groups-clause-ready
+returns-in_err-groups-clause-ready c = IfOk-from_err _ _ c.from_residual-in_err-groups.ensures.0
+
+pub returns-in_err-groups-clause-clients : goal.returns-in_err-groups-clause-clients
+returns-in_err-groups-clause-clients c = IfOk-from_err _ _ c.from_residual-in_err-groups.ensures.0
+
+pub returns-in_err-groups-clause-taken : goal.returns-in_err-groups-clause-taken
+returns-in_err-groups-clause-taken c = IfOk-from_err _ _ c.from_residual-in_err-groups.ensures.0
+
+pub returns-in_err-changes-clause-fits : goal.returns-in_err-changes-clause-fits
+returns-in_err-changes-clause-fits c = IfOk-from_err _ _ c.from_residual-in_err-changes.ensures.0
+
+pub returns-in_err-changes-clause-ready : goal.returns-in_err-changes-clause-ready
+returns-in_err-changes-clause-ready c = IfOk-from_err _ _ c.from_residual-in_err-changes.ensures.0
+
+pub returns-in_err-changes-clause-clients : goal.returns-in_err-changes-clause-clients
+returns-in_err-changes-clause-clients c = IfOk-from_err _ _ c.from_residual-in_err-changes.ensures.0
+
+pub returns-in_err-changes-clause-taken : goal.returns-in_err-changes-clause-taken
+returns-in_err-changes-clause-taken c = IfOk-from_err _ _ c.from_residual-in_err-changes.ensures.0
+
+pub returns-in_err-make_room-clause-fits : goal.returns-in_err-make_room-clause-fits
+returns-in_err-make_room-clause-fits c = IfOk-from_err _ _ c.from_residual-in_err-make_room.ensures.0
+
+pub returns-in_err-make_room-clause-ready : goal.returns-in_err-make_room-clause-ready
+returns-in_err-make_room-clause-ready c = IfOk-from_err _ _ c.from_residual-in_err-make_room.ensures.0
+
+pub returns-in_err-make_room-clause-clients : goal.returns-in_err-make_room-clause-clients
+returns-in_err-make_room-clause-clients c = IfOk-from_err _ _ c.from_residual-in_err-make_room.ensures.0
+
+pub returns-in_err-make_room-clause-taken : goal.returns-in_err-make_room-clause-taken
+returns-in_err-make_room-clause-taken c = IfOk-from_err _ _ c.from_residual-in_err-make_room.ensures.0
