@@ -15,3 +15,4 @@ pub mod Empty
 pub mod Anything
 pub mod Applied
 pub mod Asking
+pub mod Woven
