@@ -1,5 +1,5 @@
 -- A node that was to be opened again, and was not.
-use Rattle.std.proofs.Common.{◌≡◌, ◌≤◌, Bool, true, false, if◌then◌else◌, List, None, refl, sym, ap, subst, ◌∙◌, inl, arith}
+use Rattle.std.proofs.Common.{◌≡◌, ◌≤◌, Bool, true, false, if◌then◌else◌, List, None, refl, sym, ap, subst, ◌∙◌, inl, arith, rules}
 use Rattle.std.specs.Prelude.{IsTrue}
 use Rattle.rep_op.specs.declared.op.Op.{Op}
 use Rattle.jr_disk.specs.declared.disk.Disk.{Ghosts}
@@ -9,7 +9,7 @@ use Rattle.jr_journal.specs.Arranged.{misses_failure}
 use Rattle.jr_journal.specs.Parts.{disk_under, gateway_of}
 use Rattle.gw_answer.specs.declared.refusal.Refusal.{Refusal}
 use Rattle.gw_answer.specs.declared.refusal.Refusal.TheVariants as refusals
-use Rattle.gw_node.specs.Parts.{State, is_halted}
+use Rattle.gw_node.specs.Parts.{State, IsUnchanged, is_halted}
 use Rattle.gw_node.specs.inner.Handling.{IsGivenBack}
 use Rattle.gw_node.specs.Taking.{on_disk}
 use Rattle.gw_node.specs.Opening.{MayRefuse, IsNotReopened, image_of}
@@ -21,6 +21,9 @@ as_before true now e = refl
 as_before false now e = e
 
 module _ {D : Type 0} {G : Ghosts D} where
+  pub as_it_was : (state : State G) → IsUnchanged state state
+  as_it_was state = search rules
+
   -- memory ran out before anything was done
   pub wanting : (old : State G) → IsNotReopened old refusals.Memory old
   wanting old = record {

@@ -1,5 +1,5 @@
 -- A node that is opened.
-use Rattle.std.proofs.Common.{◌≡◌, ℕ, ◌+◌, false, slice_get, List, [], ◌∷◌, ◌++◌, length, take, drop, get_or, ◌<◌, ◌≤◌, Some, None, Result, Ok, Err, IfOk, IfErr, OnOk, inl, inr, refl, sym, ap, ◌∙◌, subst}
+use Rattle.std.proofs.Common.{◌≡◌, ℕ, zero, suc, ◌+◌, false, slice_get, List, [], ◌∷◌, ◌++◌, arith, length, take, drop, get_or, ◌<◌, ◌≤◌, Some, None, Result, Ok, Err, IfOk, IfErr, OnOk, MatchResult, inl, inr, refl, sym, ap, ◌∙◌, subst}
 use Rattle.std.proofs.lemmas.List.{drop_all, drop_more, take_more}
 use Rattle.std.proofs.lemmas.Option.{none-some}
 use Rattle.rep_op.specs.declared.op.Op.{Op}
@@ -25,7 +25,7 @@ use Rattle.gw_answer.specs.declared.out.Out.{Out}
 use Rattle.gw_answer.specs.declared.refusal.Refusal.{Refusal}
 use Rattle.gw_answer.specs.declared.refusal.Refusal.TheVariants as refusals
 use Rattle.gw_node.specs.declared.node.Node.{Node}
-use Rattle.gw_node.specs.Parts.{State, state_of}
+use Rattle.gw_node.specs.Parts.{State, state_of, disk_of, records_of}
 use Rattle.gw_answer.specs.Answers.{only_sends}
 use Rattle.gw_node.specs.inner.Writing.{refusal_of_journal}
 use Rattle.gw_node.specs.Plans.{IsMisfit}
@@ -56,6 +56,12 @@ do_not_fit deltas before delta kept refusals.Halted is keeps h = absurd h
 do_not_fit deltas before delta kept (refusals.Disk excuse) is keeps h = absurd h
 do_not_fit deltas before delta kept refusals.Exhausted is keeps h = absurd h
 do_not_fit deltas before delta kept (refusals.Journal fault) is keeps h = absurd h
+
+-- the delta at a place
+pub read_at : (deltas : List (List Op)) (i : ℕ) (delta : List Op) → i < length deltas → delta ≡ get_or deltas i delta → slice_get deltas i ≡ Some delta
+read_at [] i delta lt is = absurd (omega (arith, lt))
+read_at (d ∷ deltas) zero delta lt is = ap Some (sym is)
+read_at (d ∷ deltas) (suc i) delta lt is = read_at deltas i delta (omega (arith, lt)) is
 
 -- the deltas from a place on fit where this one fits and those behind it
 pub fit_one_more : (deltas : List (List Op)) (i : ℕ) (delta kept : List Op) → i < length deltas → delta ≡ get_or deltas i delta → Keeps (all_of (take i deltas)) kept → Fits kept delta
@@ -196,6 +202,50 @@ module _ {D : Type 0} {G : Ghosts D} where
   opened_place kept (Ok node) journal gateway i slot generation journal_is =
       record { slot = ap slot_of journal_is ∙ slot; generation = ap generation_of journal_is ∙ generation }
   opened_place kept (Err e) journal gateway i slot generation journal_is = tt
+
+  pub opened_starts : {R Z E : Type 0} {P : Promises R Z} (kept : R → List Op) (r : Result (Node R D Z P G) E) (journal : Journal D G) (config : Config) → is_stopped journal ≡ false → gateway_of journal ≡ config.gateway
+      → IfOk r (λ node. (state_of kept node).config ≡ config) → IfOk r (λ node. (state_of kept node).local ≡ no_local) → IfOk r (λ node. (state_of kept node).journal ≡ journal) → IfOk r (λ node. IsStarted config (state_of kept node))
+  opened_starts kept (Ok node) journal config runs same configured local journal_is =
+      record { configured = configured; local = local; runs = ap is_stopped journal_is ∙ runs; gateway = ap gateway_of journal_is ∙ same }
+  opened_starts kept (Err e) journal config runs same configured local journal_is = tt
+
+  -- what holds of the disk under the journal
+  pub opened_on : {R Z E : Type 0} {P : Promises R Z} (kept : R → List Op) (r : Result (Node R D Z P G) E) (journal : Journal D G) (Q : D → Type 0) → Q (disk_under journal)
+      → IfOk r (λ node. (state_of kept node).journal ≡ journal) → IfOk r (λ node. Q (disk_of node))
+  opened_on kept (Ok node) journal Q h journal_is = subst (λ (j : Journal D G). Q (disk_under j)) (sym journal_is) h
+  opened_on kept (Err e) journal Q h journal_is = tt
+
+  pub opened_both : {R Z F : Type 0} {P : Promises R Z} (kept : R → List Op) (r : Result (Node R D Z P G) (D × F)) (journal : Journal D G) (Q : D → Type 0) → Q (disk_under journal)
+      → IfOk r (λ node. (state_of kept node).journal ≡ journal) → IfErr r (λ refused. refused.0 ≡ disk_under journal) → MatchResult r (λ node. Q (disk_of node)) (λ refused. Q refused.0)
+  opened_both kept (Ok node) journal Q h journal_is same = subst (λ (j : Journal D G). Q (disk_under j)) (sym journal_is) h
+  opened_both kept (Err refused) journal Q h journal_is same = subst Q (sym same) h
+
+  pub opened_records : {R Z E : Type 0} {P : Promises R Z} (kept : R → List Op) (r : Result (Node R D Z P G) E) (gateway : ℕ) (i : Image) (deltas : List (List Op)) → deltas ≡ records gateway i
+      → IfOk r (λ node. records_of node ≡ length deltas) → IfOk r (λ node. records_of node ≡ length (records gateway i))
+  opened_records kept (Ok node) gateway i deltas is h = h ∙ ap length is
+  opened_records kept (Err e) gateway i deltas is h = tt
+
+-- what a misfit is
+pub misfits_may : {T D F : Type 0} (told : F → Refusal) (r : Result T (D × F)) (deltas : List (List Op)) → IfErr r (λ refused. DoNotFit deltas (told refused.1)) → IfErr r (λ refused. MayRefuse (told refused.1))
+misfits_may told (Ok x) deltas h = tt
+misfits_may told (Err refused) deltas h = may_misfit deltas (told refused.1) h
+
+pub misfits_no_disk : {T D F : Type 0} (told : F → Refusal) (r : Result T (D × F)) (deltas : List (List Op)) (Q : D → Type 0) → IfErr r (λ refused. DoNotFit deltas (told refused.1)) → IfErr r (λ refused. IsDiskFault (told refused.1) → Q refused.0)
+misfits_no_disk told (Ok x) deltas Q h = tt
+misfits_no_disk told (Err refused) deltas Q h = λ disk. absurd (misfit_no_disk deltas (told refused.1) h disk)
+
+pub misfits_fault : {T D F : Type 0} (told : F → Refusal) (r : Result T (D × F)) (gateway : ℕ) (i : Image) (deltas : List (List Op)) → deltas ≡ records gateway i → IfErr r (λ refused. DoNotFit deltas (told refused.1)) → IfErr r (λ refused. IsOpenFault gateway i (told refused.1))
+misfits_fault told (Ok x) gateway i deltas is h = tt
+misfits_fault told (Err refused) gateway i deltas is h = misfit_fault gateway i deltas (told refused.1) is h
+
+pub misfits_blameless : {T D F : Type 0} (told : F → Refusal) (r : Result T (D × F)) (d : D) (deltas : List (List Op)) (W Q : D → Type 0) → (W d → Q d) → IfErr r (λ refused. refused.0 ≡ d) → IfErr r (λ refused. DoNotFit deltas (told refused.1))
+    → IfErr r (λ refused. W refused.0 → (IsDiskFault (told refused.1) → ⊥) × Q refused.0)
+misfits_blameless told (Ok x) d deltas W Q q same h = tt
+misfits_blameless told (Err refused) d deltas W Q q same h = λ w. (misfit_no_disk deltas (told refused.1) h, subst Q (sym same) (q (subst W same w)))
+
+pub on_any : {T E : Type 0} (r : Result T E) (P : Type 0) → P → OnOk r P
+on_any (Ok x) P h = h
+on_any (Err e) P h = tt
 
 pub opened_leaves : {D T F : Type 0} (slots : D → Slots) (r : Result T (D × F)) (d : D) (gateway : ℕ) (old : Slots) → LeavesNoMore gateway old (slots d) → IfErr r (λ refused. refused.0 ≡ d) → IfErr r (λ refused. LeavesNoMore gateway old (slots refused.0))
 opened_leaves slots (Ok x) d gateway old h is = tt

@@ -6,7 +6,7 @@ use Rattle.rep_ops.specs.Splitting.{all_of}
 use Rattle.rep_model.specs.Keep.{IsKeptOf}
 use Rattle.gw_node.specs.Keeping.{Keeps}
 use Rattle.gw_node.proofs.Keeping.{keeps_none}
-use Rattle.gw_node.proofs.Started.{keeps_one_more, fit_one_more, fit_at_the_end}
+use Rattle.gw_node.proofs.Started.{keeps_one_more, do_not_fit, read_at, fit_one_more, fit_at_the_end}
 use Rattle.gw_node.proofs.opening.take_all.Goals as goal
 
 pub loop-delta-init : goal.loop-delta-init
@@ -41,3 +41,19 @@ returns-clause-none g c = λ none.
     let size : length c.args.deltas.now ≡ 0 = ap length none in
     let end = c.loop-delta.auto.delta-index-end in
     c.loop-delta.invariant.1 (omega arith)
+
+pub commit-requires : goal.commit-requires
+commit-requires g c = c.in-Ok.ensures.ready
+
+pub returns-in-Err : goal.returns-in-Err
+returns-in-Err g c =
+    let deltas = c.args.deltas.now in
+    let i = c.loop-delta.delta-index in record {
+      ok = tt;
+      fits = tt;
+      none = tt;
+      err = do_not_fit deltas i c.delta-item.result (g.R.Replica.kept c.loop-delta.replica) c.in-Err.refusal (read_at deltas i c.delta-item.result c.loop-delta-test.true c.delta-item.is) c.loop-delta.invariant.0 c.in-Err.ensures.misfit;
+    }
+
+pub returns-clause-err : goal.returns-clause-err
+returns-clause-err g c = tt
