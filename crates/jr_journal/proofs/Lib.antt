@@ -14,3 +14,4 @@ pub mod Begun
 pub mod Opened
 pub mod Quiet
 pub mod Leaving
+pub mod Growing
