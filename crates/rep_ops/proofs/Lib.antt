@@ -13,3 +13,4 @@ pub mod Whole
 pub mod Listed
 pub mod Format
 pub mod Examples
+pub mod Written
