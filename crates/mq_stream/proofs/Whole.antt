@@ -1,5 +1,5 @@
 -- A packet that is in front of a stream, whole or as far as it is held, is a piece, or has a fault.
-use Rattle.std.proofs.Common.{◌≡◌, ◌∙◌, ◌+◌, ◌-◌, ◌<◌, ◌≤◌, ◌⊎◌, inl, inr, ℕ, zero, suc, if◌then◌else◌, List, [], ◌∷◌, ◌++◌, length, take, drop, refl, sym, ap, subst, length-append, arith}
+use Rattle.std.proofs.Common.{◌≡◌, ◌∙◌, ◌+◌, ◌-◌, ◌<◌, ◌≤◌, ◌⊎◌, inl, inr, ℕ, zero, suc, if◌then◌else◌, List, [], ◌∷◌, ◌++◌, length, get_or, take, take_all, drop, refl, sym, ap, subst, length-append, arith}
 use Rattle.std.specs.Prelude.{◌≢◌}
 use Rattle.std.proofs.lemmas.Bool.{lt-ltb, le-ltb}
 use Rattle.mq_packet.specs.declared.fault.PacketFault.{PacketFault}
@@ -38,6 +38,17 @@ take-length (suc k) (x ∷ xs) h =
     let less : k ≤ length xs = omega arith in
     let deeper = take-length k xs less in
     omega arith
+
+pub begins_with : (octets : List ℕ) → 1 ≤ length octets → octets ≡ get_or octets 0 0 ∷ take (length octets - 1) (drop 1 octets)
+begins_with [] h = absurd (omega (arith, h))
+begins_with (x ∷ xs) h =
+    let size : length (x ∷ xs) - 1 ≡ length xs = omega arith in
+    let all : length xs ≤ length xs = omega arith in
+    ap (λ ys. x ∷ ys) (sym (ap (λ n. take n xs) size ∙ take_all (length xs) xs all))
+
+pub nothing_there : (octets : List ℕ) → length octets < 1 → octets ≡ []
+nothing_there [] h = refl
+nothing_there (x ∷ xs) h = absurd (omega (arith, h))
 
 -- ---- how much is held
 
