@@ -1,3 +1,6 @@
+use Rattle.std.proofs.Common.{ℕ, List, [], ◌∷◌, ◌++◌, flat_map, take_all, append_assoc, ap, subst, ◌∙◌}
+use Rattle.std.specs.List.{AllByRecursion}
+use Rattle.rep_op.specs.declared.op.Op.{Op}
 use Rattle.std.proofs.lemmas.Result.{IfOk-from_err}
 use Rattle.jr_journal.specs.Records.{written}
 use Rattle.jr_journal.specs.Readable.{IsReadable}
@@ -18,3 +21,13 @@ loop-delta-preserved c =
       flat_more written base i delta c.args.out.now.items c.loop-delta.out.items c.append_record.new.out.items c.loop-delta.invariant.0 c.in_ok-append_record.ensures.ok c.loop-delta-test.true c.delta-item.is,
       all_more IsReadable base i delta c.loop-delta-test.true c.delta-item.is c.loop-delta.invariant.1 c.in_ok-append_record.ensures.readable,
     )
+
+pub returns-clause-readable : goal.returns-clause-readable
+returns-clause-readable c =
+    subst (AllByRecursion IsReadable) (take_all c.loop-delta.delta-index c.args.base.now c.loop-delta-test.false) c.loop-delta.invariant.1
+
+pub returns-clause-ok : goal.returns-clause-ok
+returns-clause-ok c =
+    c.in_ok-extend_from_slice.ensures.items
+    ∙ ap (λ (xs : List ℕ). xs ++ 83 ∷ []) (c.loop-delta.invariant.0 ∙ ap (λ (ds : List (List Op)). c.args.out.now.items ++ flat_map written ds) (take_all c.loop-delta.delta-index c.args.base.now c.loop-delta-test.false))
+    ∙ append_assoc c.args.out.now.items (flat_map written c.args.base.now) (83 ∷ [])

@@ -4,6 +4,7 @@ use Rattle.jr_journal.specs.Records.{base_bytes}
 use Rattle.jr_journal.specs.Arranged.{after_append}
 use Rattle.jr_journal.specs.Journals.{emptied}
 use Rattle.jr_journal.specs.inner.Journals.{is_in_use}
+use Rattle.jr_journal.proofs.Appending.{number_kept}
 use Rattle.jr_journal.proofs.Settled.{with_more}
 use Rattle.jr_journal.proofs.Compacted.{IsCompacting, torn_compact, compact_settles, compact_durable}
 use Rattle.jr_journal.proofs.journal.Journal.compact.Goals as goal
@@ -61,3 +62,28 @@ returns-clause-durable g c = λ honest.
     } in
     let done = subst (λ (x : Slot). new ≡ after_append None (emptied old x) x bytes) c.other_slot-slot.ensures (c.in_ok-write_anew.ensures.exact honest) in
     compact_durable s.gateway s.slot s.generation c.in-Some.generation s.halted old new c.args.base.now bytes h done
+
+pub returns-then-is_halted-clause-number : goal.returns-then-is_halted-clause-number
+returns-then-is_halted-clause-number g c =
+    let s = c.args.self.now in
+    λ honest runs. number_kept s.gateway s.slot s.generation s.halted (g.D.Disk.slots s.disk) (s.settled honest) runs
+
+pub returns-in_default-clause-number : goal.returns-in_default-clause-number
+returns-in_default-clause-number g c =
+    let s = c.args.self.now in
+    λ honest runs. number_kept s.gateway s.slot s.generation s.halted (g.D.Disk.slots s.disk) (s.settled honest) runs
+
+pub returns-in_err-bytes-clause-number : goal.returns-in_err-bytes-clause-number
+returns-in_err-bytes-clause-number g c =
+    let s = c.args.self.now in
+    λ honest runs. number_kept s.gateway s.slot s.generation s.halted (g.D.Disk.slots s.disk) (s.settled honest) runs
+
+pub returns-in_err-write_anew-clause-number : goal.returns-in_err-write_anew-clause-number
+returns-in_err-write_anew-clause-number g c =
+    let s = c.args.self.now in
+    λ honest runs. number_kept s.gateway s.slot s.generation s.halted (g.D.Disk.slots s.disk) (s.settled honest) runs
+
+pub returns-clause-number : goal.returns-clause-number
+returns-clause-number g c =
+    let s = c.args.self.now in
+    λ honest runs. number_kept s.gateway s.slot s.generation s.halted (g.D.Disk.slots s.disk) (s.settled honest) runs
