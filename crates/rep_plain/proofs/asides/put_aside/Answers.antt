@@ -8,6 +8,7 @@ use Rattle.rep_plain.specs.inner.Tables.{IsSaving}
 use Rattle.rep_shared.proofs.Flat.{one_if}
 use Rattle.rep_plain.proofs.Moves.{any_length, place_there}
 use Rattle.rep_plain.proofs.Backs.{aside_more, saving_itself, saving_more}
+use Rattle.std.proofs.lemmas.Result.{IfOk-from_err}
 use Rattle.rep_plain.proofs.asides.put_aside.Goals as goal
 
 pub returns-in_err-copy-clause-saving : goal.returns-in_err-copy-clause-saving
@@ -74,3 +75,12 @@ returns-else-not-is_empty-clause-saved c =
     let old = c.args.aside.now.entries in
     let copy = c.in_ok-copy.copy in
     place_there old c.insert.new.self.entries c.args.client.now copy (c.in_ok-insert.ensures.entries ∙ ap (λ k. insert_entry client_cmp old k copy) c.in_ok-copied.ensures)
+
+pub returns-in_err-copy-clause-saved : goal.returns-in_err-copy-clause-saved
+returns-in_err-copy-clause-saved c = IfOk-from_err _ _ c.from_residual.ensures.0
+
+pub returns-in_err-copied-clause-saved : goal.returns-in_err-copied-clause-saved
+returns-in_err-copied-clause-saved c = IfOk-from_err _ _ c.from_residual-in_err-copied.ensures.0
+
+pub returns-in_err-insert-clause-saved : goal.returns-in_err-insert-clause-saved
+returns-in_err-insert-clause-saved c = IfOk-from_err _ _ c.from_residual-in_err-insert.ensures.0
