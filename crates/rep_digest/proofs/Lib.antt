@@ -10,3 +10,4 @@ pub mod Made
 pub mod Worked
 pub mod Examples
 pub mod Retaining
+pub mod Written
