@@ -1,4 +1,4 @@
-use Rattle.std.proofs.Common.{take, take_all, ◌++◌, List, ap, ◌∙◌, arith}
+use Rattle.std.proofs.Common.{take, take_all, ◌++◌, List, ap, ◌∙◌}
 use Rattle.std.specs.List.{flat_map}
 use Rattle.std.proofs.lemmas.Result.{err_from_is_err_and}
 use Rattle.rep_op.specs.Spelling.{op_octets}
