@@ -241,7 +241,6 @@ impl Writer {
     }
 
     /// One session operation more.
-    #[tactic(auto, unfolding(crate::specs::Numbering::write))]
     pub fn write(
         &mut self,
         alloc: Global,
@@ -251,9 +250,9 @@ impl Writer {
     ) -> Result<(), StepFault>
         ensures { Becomes result self.new (write client.now gateway change self.old) }
     {
-        match change {
-            SessionOp::Take(session) => self.take(alloc, gateway, client, session),
-            change => self.counted(alloc, gateway, client, change),
+        match change.into_taken() {
+            Ok(session) => self.take(alloc, gateway, client, session),
+            Err(change) => self.counted(alloc, gateway, client, change),
         }
     }
 

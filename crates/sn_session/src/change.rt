@@ -4,6 +4,7 @@ ghost use Rattle.std.specs.Prelude.{◌≡◌, ◌↔◌, false, IfOk, IfErr, On
 ghost use Rattle.sn_session.specs.Session.{applied};
 ghost use Rattle.sn_session.specs.inner.Holding.{holds_octets};
 ghost use Rattle.sn_session.specs.Session as spec;
+ghost use Rattle.sn_session.specs.declared.change.SessionOp.TheVariants.{Take};
 
 use super::message::Message;
 use crate::outbound::Outbound;
@@ -17,7 +18,7 @@ use std::alloc::Global;
 use std::mem;
 
 /// A change of a session.
-#[derive(Drop, PartialEq, Eq)]
+#[derive(PartialEq, Eq)]
 pub enum SessionOp {
     /// A gateway takes the client over, with this session.
     Take(Session),
@@ -61,12 +62,50 @@ pub enum SessionOp {
     },
 }
 
+impl Drop for SessionOp {
+    fn drop(self) {
+        match self {
+            SessionOp::Take(taken) => drop(taken),
+            SessionOp::Presence {
+                presence: _,
+                duration: _,
+            } => {}
+            SessionOp::Register {
+                id: _,
+                name,
+                known: _,
+            } => drop(name),
+            SessionOp::Subscribe { filter, qos: _ } => drop(filter),
+            SessionOp::Unsubscribe { filter } => drop(filter),
+            SessionOp::WillTopic(asked) => drop(asked),
+            SessionOp::WillMsg(message) => drop(message),
+            SessionOp::Received { id: _ } => {}
+            SessionOp::Released { id: _ } => {}
+            SessionOp::Outbound {
+                exchange: _,
+                next_id: _,
+            } => {}
+        }
+    }
+}
+
 impl SessionOp {
     /// Whether the operation holds a whole session.
     pub fn is_take(&self) -> bool
         ensures { result ≡ spec.is_take self.now }
     {
         matches!(self, SessionOp::Take(_))
+    }
+
+    /// The session that is taken, or the operation, if it is no Take.
+    pub fn into_taken(self) -> Result<Session, SessionOp>
+        ensures taken { IfOk result (λ session. self ≡ Take session) }
+        ensures other { IfErr result (λ change. (change ≡ self) × (spec.is_take self ≡ false)) }
+    {
+        match self {
+            SessionOp::Take(session) => Ok(session),
+            other => Err(other),
+        }
     }
 
     /// An equal operation.
