@@ -1,5 +1,5 @@
 -- Addresses as `a.b.c.d:port`.
-use Rattle.std.specs.Prelude.{ℕ, ◌+◌, ◌*◌, ◌==◌, List, take, drop, position, Option, Some, None, option_and_then, option_map}
+use Rattle.std.specs.Prelude.{ℕ, ◌+◌, ◌*◌, ◌==◌, List, take, drop, position, Option, option_and_then, option_map}
 use Rattle.sn_local.specs.declared.config.Addr.{Addr}
 use Rattle.gw_main.specs.Numbers.{number_of}
 

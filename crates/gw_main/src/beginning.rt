@@ -12,7 +12,6 @@ ghost use Rattle.gw_node.specs.Keeping.{Keeps};
 ghost use Rattle.gw_node.specs.Taking.{RecoversTo, HasTaken};
 ghost use Rattle.gw_node.specs.Opening.{IsStarted, MayRefuse};
 ghost use Rattle.gw_main.specs.Beginning as spec;
-ghost use Rattle.gw_answer.specs.declared.fault.NodeFault.TheVariants as faults;
 
 use super::options::Settings;
 use gw_node::{Node, NodeFault};

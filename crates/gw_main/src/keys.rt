@@ -3,7 +3,6 @@
 ghost use Rattle.std.specs.Prelude.{◌≡◌, ◌≤◌, IfOk, IfErr, IfSome, Some, None, option_map, string_bytes};
 ghost use Rattle.toml.specs.Data.{get_member};
 ghost use Rattle.toml.specs.View.{view, table_view};
-ghost use Rattle.gw_main.specs.Addresses.{read_address};
 ghost use Rattle.gw_main.specs.Reading.{address_in, text_in, value_at};
 ghost use Rattle.gw_main.specs.Reading as spec;
 ghost use Rattle.gw_main.specs.inner.Reading.{IsBadAt};

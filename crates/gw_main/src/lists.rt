@@ -1,6 +1,6 @@
 //! Lists of addresses and of predefined topic ids.
 
-ghost use Rattle.std.specs.Prelude.{◌≡◌, ◌<◌, ◌^◌, ◌++◌, ℕ, IfOk, IfErr, IfSome, Ok, Some, None, option_map};
+ghost use Rattle.std.specs.Prelude.{◌≡◌, ◌<◌, IfOk, IfErr, Ok, Some, None, option_map};
 ghost use Rattle.toml.specs.View.{view, items_view, table_view};
 ghost use Rattle.sn_topic.specs.Topics.{name_asked};
 ghost use Rattle.gw_main.specs.Reading.{each, list_in, entry_item, value_at, predefined_in};

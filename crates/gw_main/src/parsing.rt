@@ -1,6 +1,6 @@
 //! The settings of a text.
 
-ghost use Rattle.std.specs.Prelude.{◌≡◌, ◌≤◌, IfOk, IfErr, Some};
+ghost use Rattle.std.specs.Prelude.{IfOk, IfErr, Some};
 ghost use Rattle.toml.specs.Data.{Members};
 ghost use Rattle.toml.specs.View.{table_view};
 ghost use Rattle.gw_main.specs.Reading.{SaysSettings, IsSettingsText, IsTextFault};

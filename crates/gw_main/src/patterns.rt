@@ -1,6 +1,6 @@
 //! Patterns of client ids.
 
-ghost use Rattle.std.specs.Prelude.{◌≡◌, length};
+ghost use Rattle.std.specs.Prelude.{◌≡◌};
 ghost use Rattle.std.specs.List.{list_any};
 ghost use Rattle.gw_main.specs.Patterns as spec;
 

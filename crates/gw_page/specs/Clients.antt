@@ -1,6 +1,6 @@
 -- The page of clients: a line for each, its columns apart by tabs.
 use Rattle.std.specs.Prelude.{ℕ, ◌/◌, ◌%◌, ◌==◌, ◌||◌, List, [], Bool, true, false, if◌then◌else◌, Option, Some, None, codes, flat_map}
-use Rattle.std.specs.List.{list_all, list_any}
+use Rattle.std.specs.List.{list_all}
 use Rattle.std.specs.Char.{is_ascii_alphanumeric}
 use Rattle.std.specs.Fmt.{decimal}
 use Rattle.hex.specs.Hex.{encode_lower}
@@ -9,7 +9,6 @@ use Rattle.sn_session.specs.declared.outbound.Phase.{Phase}
 use Rattle.sn_session.specs.declared.outbound.Phase.TheVariants as phases
 use Rattle.rep_op.specs.declared.op.Stamp.{Stamp}
 use Rattle.gw_report.specs.declared.glimpse.First.{First}
-use Rattle.gw_report.specs.declared.glimpse.Glimpse.{Glimpse}
 use Rattle.gw_report.specs.declared.glimpse.LocalGlimpse.{LocalGlimpse}
 use Rattle.gw_report.specs.declared.glimpse.SessionGlimpse.{SessionGlimpse}
 use Rattle.gw_report.specs.declared.glimpse.Seen.{Seen}

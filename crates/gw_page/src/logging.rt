@@ -1,6 +1,6 @@
 //! Events as lines, for the page and for the journal of the system.
 
-ghost use Rattle.std.specs.Prelude.{◌≡◌, ◌++◌, IfOk, OnOk, flat_map, string_bytes};
+ghost use Rattle.std.specs.Prelude.{◌≡◌, ◌++◌, IfOk, OnOk, string_bytes};
 ghost use Rattle.gw_page.specs.Logs.{log_text, event_text, entry_text, what_text, alarm_text, warning_text, note_text, detail_text, same_number_text, conflict_text, halted_text, reopened_text, not_compacted_text, stranger_text, delta_full_text, twice_text, turned_away_text, client_full_text, topics_near_full_text, clients_near_full_text, dropped_text, nothing_sent_text, stood_still_text, lost_text, made_text, closed_text, connected_text, client_lost_text, taken_over_text};
 
 use gw_report::{Alarm, Detail, Event, Note, Warning, What};

@@ -3,7 +3,7 @@
 use super::copying::append_copy;
 use super::drive::Left;
 use super::field::{Field, Played};
-use super::judge::{Progress, What, delta_at, held_of};
+use super::judge::{Progress, What, held_of};
 use super::row::append_put;
 use super::seat::Seat;
 use gw_world::{Answer, Event, NodeFault};

@@ -1,6 +1,5 @@
 //! A seat for links: in each shift one link at a time talks there, with the seat's pass.
 
-ghost use Rattle.std.specs.Prelude.{◌≡◌};
 ghost use Rattle.gw_link.specs.Adding.{Adds, is_of_link};
 
 use crate::pool::Pool;

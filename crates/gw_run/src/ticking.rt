@@ -1,7 +1,7 @@
 //! The ticks of a shift. They are made in the clock's thread, and the shift's lock is held for
 //! calls alone.
 
-ghost use Rattle.std.specs.Prelude.{◌≡◌, Some, None, MatchResult};
+ghost use Rattle.std.specs.Prelude.{Some, None, MatchResult};
 ghost use Rattle.gw_run.specs.Clock.{AddsOfClock, OpensAs};
 
 use crate::pool::Pool;

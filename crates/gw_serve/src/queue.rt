@@ -1,6 +1,6 @@
 //! The queue between the reader and the workers, and the rule over it.
 
-ghost use Rattle.std.specs.Prelude.{◌≡◌, ◌^◌, ◌-◌, ◌+◌, [], ◌∷◌, ◌++◌, length};
+ghost use Rattle.std.specs.Prelude.{◌≡◌, ◌-◌, ◌+◌, [], ◌∷◌, ◌++◌};
 ghost use Rattle.gw_serve.specs.Count.{weigh};
 ghost use Rattle.gw_serve.specs.inner.Room as spec;
 ghost use Rattle.gw_serve.specs.inner.Queue.{hand, numbers, whole, Balanced};

@@ -1,14 +1,13 @@
 //! Datagrams that a worker took at once: their calls are made in as few calls of the shift as may
 //! be, mostly one, and their replies are sent when all are made.
 
-ghost use Rattle.std.specs.Prelude.{◌≡◌, ℕ, ◌≤◌, ◌<◌, ◌+◌, ◌^◌, ◌++◌, ◌∷◌, [], true, Some, None, IfOk, IfSome, OnOk, All, length, map, take, drop, vec_len, vec_capacity};
+ghost use Rattle.std.specs.Prelude.{◌≡◌, ℕ, ◌≤◌, ◌<◌, ◌+◌, ◌^◌, ◌++◌, [], true, IfOk, OnOk, All, length, map, take, drop, vec_len, vec_capacity};
 ghost use Rattle.std.specs.Arc.{arc_value};
 ghost use Rattle.crossbeam_channel.specs.Claims.{view, IsSeatAt};
 ghost use Rattle.crossbeam_channel.specs.Ends.{receives_on};
 ghost use Rattle.gw_shift.specs.Calls.{Holder};
 ghost use Rattle.gw_shift.specs.Calling.{NoneMade};
-ghost use Rattle.gw_serve.specs.Serving.{is_frame, Gains};
-ghost use Rattle.gw_serve.specs.inner.Queue.{hand};
+ghost use Rattle.gw_serve.specs.Serving.{is_frame};
 ghost use Rattle.gw_serve.specs.inner.Rows.{IsTakenRow, IsEmptyRow, TakesNumbers, AreCalled, IsEnd, row_numbers_from};
 
 use crate::queue::{CAPACITY, Datagram, Receiver, Takes, Ticket};

@@ -1,6 +1,6 @@
 //! Serving: one reader, a worker for each pass, and the account of all numbers at the end.
 
-ghost use Rattle.std.specs.Prelude.{◌≡◌, ◌≢◌, ◌⊎◌, ◌≤◌, ◌<◌, ◌+◌, ◌-◌, ◌^◌, ◌++◌, ℕ, Some, None, List, [], ◌∷◌, length, map, vec_len, vec_capacity, IfOk, IfErr, IfSome, All};
+ghost use Rattle.std.specs.Prelude.{◌≡◌, ◌≢◌, ◌⊎◌, ◌≤◌, ◌<◌, ◌+◌, ◌-◌, ◌++◌, ℕ, Some, None, List, [], ◌∷◌, length, map, vec_len, vec_capacity, IfOk, IfErr, IfSome, All};
 ghost use Rattle.crossbeam_channel.specs.Claims.{view, IsSeatAt};
 ghost use Rattle.crossbeam_channel.specs.Ends.{sends_on, receives_on};
 ghost use Rattle.gw_serve.specs.Count.{weigh, times_in, one_to};

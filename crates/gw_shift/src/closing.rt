@@ -1,7 +1,6 @@
 //! Whether passes hold the calls of a history.
 
-ghost use Rattle.std.specs.Prelude.{◌≡◌, ◌↔◌, ◌≤◌, ◌-◌, IsTrue, MatchOption, slice_get, length};
-ghost use Rattle.rep_op.specs.declared.op.Op.{Op};
+ghost use Rattle.std.specs.Prelude.{◌≡◌, ◌↔◌, ◌≤◌, ◌-◌, IsTrue, MatchOption, length};
 ghost use Rattle.gw_shift.specs.declared.shift.TheConstants.{MAX_STEPS};
 ghost use Rattle.gw_shift.specs.Closing.{StandsIn, has_number, is_held, AreOwn, AreKnown, HaveOpening, IsStrangeIn, IsStrange, taken_by};
 ghost use Rattle.gw_shift.specs.inner.Closing.{AllStand, EachStands, IsElsewhere, HavePlacesApart};

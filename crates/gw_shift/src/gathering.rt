@@ -1,6 +1,6 @@
 //! The deltas that calls made.
 
-ghost use Rattle.std.specs.Prelude.{◌≡◌, ◌+◌, ◌<◌, ◌^◌, ◌++◌, ◌∷◌, [], List, IfOk, MatchOption, None, Some, length, take};
+ghost use Rattle.std.specs.Prelude.{◌≡◌, ◌+◌, ◌<◌, ◌^◌, [], List, IfOk, MatchOption, None, Some, length, take};
 ghost use Rattle.std.specs.Arc.{arc_value};
 ghost use Rattle.rep_op.specs.declared.op.Op.{Op};
 ghost use Rattle.gw_answer.specs.Answers.{said};

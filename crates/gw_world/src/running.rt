@@ -12,7 +12,6 @@ ghost use Rattle.gw_event.specs.Gateways.{new_gateway};
 ghost use Rattle.gw_event.specs.Event.{IsWritable};
 ghost use Rattle.gw_world.specs.Keeping.{IsShown, AreShown};
 ghost use Rattle.gw_world.specs.Worlds.{IsWorld, IsStop};
-ghost use Rattle.rep_op.specs.declared.op.Op.{Op};
 
 use super::event::{Answer, Call, Event};
 use super::field::{

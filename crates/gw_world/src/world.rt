@@ -6,7 +6,7 @@ ghost use Rattle.gw_world.specs.declared.world.WorldFault.TheVariants.{Memory};
 
 use super::event::Answer;
 use octets::{NoMemory, Sequence};
-use rep_ops::{Delta, OpsFault};
+use rep_ops::Delta;
 use sn_local::StepFault;
 use std::alloc::{AllocError, AllocFailed};
 use thiserror::Error;

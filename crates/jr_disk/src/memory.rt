@@ -1,6 +1,6 @@
 //! A disk in memory.
 
-ghost use Rattle.std.specs.Prelude.{Some, ◌≡◌, ◌≤◌, ℕ, ◌+◌, Bool, true, ◌++◌, min, length, take, OnOk, OnErr, IfOk, IsOk, IsErr};
+ghost use Rattle.std.specs.Prelude.{Some, ◌≡◌, ◌≤◌, ◌+◌, true, min, length, take, OnOk, OnErr};
 
 use crate::disk::{Disk, DiskFault, Failure, Short, Slot};
 use crate::failures::Failures;

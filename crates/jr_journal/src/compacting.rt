@@ -1,7 +1,7 @@
 //! Compacting: what a journal must keep is written into its other slot, and the journal goes on
 //! there.
 
-ghost use Rattle.std.specs.Prelude.{ℕ, ◌≡◌, ◌≤◌, ◌<◌, ◌⊎◌, [], ◌∷◌, ◌++◌, true, false, None, flat_map, take, IfOk, IfErr, OnOk, OnErr, IsErrOf};
+ghost use Rattle.std.specs.Prelude.{ℕ, ◌≡◌, ◌≤◌, ◌<◌, ◌⊎◌, [], ◌∷◌, ◌++◌, true, false, None, flat_map, take, IfOk, IfErr, OnOk, OnErr};
 ghost use Rattle.std.specs.List.{AllByRecursion};
 ghost use Rattle.jr_disk.specs.Disk.{at, replaced, appended};
 ghost use Rattle.jr_journal.specs.Records.{header, written, base_bytes};

@@ -1,7 +1,6 @@
 //! What of a journal is to be cut.
 
-ghost use Rattle.std.specs.Prelude.{◌≡◌, ◌≢◌, ◌≤◌, ◌==◌, IfOk, IfErr, IfSome, OnOk, None, true, take, drop, length};
-ghost use Rattle.std.specs.List.{list_all};
+ghost use Rattle.std.specs.Prelude.{◌≡◌, ◌≢◌, ◌==◌, IfOk, IfErr, IfSome, OnOk, None, true, take, drop};
 ghost use Rattle.jr_journal.specs.Faults.{fault_of};
 ghost use Rattle.jr_read.specs.Places.{slots_of, octets_in, IsTold};
 ghost use Rattle.jr_mend.specs.inner.Naming.{ending_of};

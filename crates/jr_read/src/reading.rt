@@ -1,6 +1,6 @@
 //! What an opening would read.
 
-ghost use Rattle.std.specs.Prelude.{Option, ◌≡◌, ◌<◌, None, length, take, drop, slice_get, IfOk, IfErr, IfNone, IfSome, OnOk, option_copied};
+ghost use Rattle.std.specs.Prelude.{Option, ◌≡◌, ◌<◌, None, length, take, drop, slice_get, IfOk, IfErr, IfNone, IfSome, OnOk};
 ghost use Rattle.std.specs.Int.{w64, from_be_bytes};
 ghost use Rattle.jr_journal.specs.declared.fault.JournalFault.{JournalFault};
 ghost use Rattle.jr_disk.specs.Disk.{at, image, bytes_of};

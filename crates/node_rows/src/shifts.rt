@@ -1,6 +1,6 @@
 //! Lines about a shift of the gateway, the passes that call it, and its end.
 
-ghost use Rattle.std.specs.Prelude.{◌<◌, ◌≤◌};
+ghost use Rattle.std.specs.Prelude.{◌<◌};
 
 use crate::calls::{after, close_by, over, shared_step};
 use crate::gateways::Store;

@@ -1,6 +1,6 @@
 //! An owned octet string.
 
-ghost use Rattle.std.specs.Prelude.{◌≡◌, ℕ, List, length, IfOk, IsTrue, ◌↔◌, nat_eq, ◌==◌};
+ghost use Rattle.std.specs.Prelude.{◌≡◌, ℕ, List, length, IfOk, nat_eq, ◌==◌};
 
 use super::memory::NoMemory;
 use std::alloc::Global;

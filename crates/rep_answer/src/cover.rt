@@ -1,7 +1,6 @@
 //! What a digest covers of clients.
 
 ghost use Rattle.std.specs.Prelude.{◌≡◌, ◌==◌, Some, None, MatchOption};
-ghost use Rattle.std.specs.List.{find};
 ghost use Rattle.sn_tables.specs.inner.Tables.{IsPlace};
 ghost use Rattle.rep_op.specs.Orders.{client_cmp};
 ghost use Rattle.rep_model.specs.Keep as keeps;

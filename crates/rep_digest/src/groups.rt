@@ -1,6 +1,6 @@
 //! The acknowledgements of each client.
 
-ghost use Rattle.std.specs.Prelude.{◌≡◌, ◌++◌, ◌∷◌, [], List, length, IfOk, OnOk};
+ghost use Rattle.std.specs.Prelude.{◌≡◌, ◌++◌, ◌∷◌, [], List, IfOk, OnOk};
 ghost use Rattle.std.specs.List.Sorted.{IsStrictlySortedBy};
 ghost use Rattle.sn_tables.specs.inner.Tables.{IsPlace};
 ghost use Rattle.rep_op.specs.declared.op.Op.{Op};

@@ -5,7 +5,7 @@ mod order;
 mod part;
 mod topic;
 
-ghost use Rattle.std.specs.Prelude.{◌≡◌, []};
+ghost use Rattle.std.specs.Prelude.{[]};
 ghost use Rattle.rep_read.specs.Reading.{ReadsAs};
 ghost use Rattle.rep_ops.specs.Reading.{listed_at, values_at};
 ghost use Rattle.rep_digest.specs.Digests.{digested};

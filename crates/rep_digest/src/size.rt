@@ -1,10 +1,9 @@
 //! Whether entries are spelled in at most 8 MiB.
 
-ghost use Rattle.std.specs.Prelude.{◌≡◌, ◌≤◌, ◌↔◌, length, IsTrue};
+ghost use Rattle.std.specs.Prelude.{◌≤◌, ◌↔◌, length, IsTrue};
 ghost use Rattle.std.specs.List.{flat_map};
-ghost use Rattle.rep_op.specs.ClientIds.{IsClientId};
 ghost use Rattle.rep_ops.specs.Spelling.{max_octets};
-ghost use Rattle.rep_digest.specs.Spelling.{ranges_octets, origin_octets, origins_octets, entry_octets, retained_entry_octets, spelled};
+ghost use Rattle.rep_digest.specs.Spelling.{ranges_octets, origin_octets, entry_octets, retained_entry_octets, spelled};
 ghost use Rattle.rep_digest.specs.inner.Spelling.{LeavesRoom, some_topics};
 
 use super::entry::{ClientEntry, OriginEntry, RetainedEntry};

@@ -2,14 +2,14 @@
 
 #![tactic(auto, using(rep_write::proofs::Writing::keeps_itself, rep_write::proofs::Writing::keeps_more, rep_write::proofs::Writing::keeps_through))]
 
-ghost use Rattle.std.specs.Prelude.{◌≡◌, ◌<◌, ◌≤◌, ◌^◌, ◌++◌, ◌∷◌, List, [], length};
+ghost use Rattle.std.specs.Prelude.{◌<◌, ◌≤◌, ◌^◌, ◌++◌, ◌∷◌, List, [], length};
 ghost use Rattle.byteorder.specs.Endian.{big_bytes};
 ghost use Rattle.std.specs.List.{flat_map, AllByRecursion};
 ghost use Rattle.rep_write.specs.Writing.{Writes};
 ghost use Rattle.rep_op.specs.declared.version.Version.TheVariants.{One, Two};
 ghost use Rattle.rep_ops.specs.Spelling.{text_of, max_octets};
 ghost use Rattle.rep_digest.specs.WellMade.{AreClients, AreTopics};
-ghost use Rattle.rep_digest.specs.Spelling.{range_octets, ranges_octets, origin_octets, origins_octets, seen_octets, entry_octets, retained_entry_octets, topics_octets, spelled};
+ghost use Rattle.rep_digest.specs.Spelling.{range_octets, ranges_octets, origin_octets, seen_octets, entry_octets, retained_entry_octets, topics_octets, spelled};
 ghost use Rattle.rep_digest.specs.inner.Spelling.{HaveFewRanges, IsEntryWritable};
 
 use super::entry::{ClientEntry, OriginEntry, RetainedEntry};

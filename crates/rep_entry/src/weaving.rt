@@ -1,6 +1,6 @@
 //! Messages in the order of delivery, with more of them. Each is moved; no memory is taken.
 
-ghost use Rattle.std.specs.Prelude.{◌≡◌, ◌+◌, ◌<◌, ◌≤◌, ◌++◌, ◌∷◌, [], vec_len, vec_capacity, length};
+ghost use Rattle.std.specs.Prelude.{◌≡◌, ◌+◌, ◌<◌, ◌≤◌, ◌++◌, ◌∷◌, [], vec_len, vec_capacity};
 ghost use Rattle.std.specs.VecDeque.{deque_len};
 ghost use Rattle.rep_log.specs.Mail.{front_before, rest_from, weave};
 ghost use Rattle.rep_log.specs.Mail as mail;

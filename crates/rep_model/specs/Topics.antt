@@ -1,5 +1,5 @@
 -- What a set of operations retains of topics.
-use Rattle.std.specs.Prelude.{ℕ, Bool, false, ◌&&◌, if◌then◌else◌, nat_lt, List, [], ◌∷◌, length, filter, Option, Some, None, option_and_then, option_map}
+use Rattle.std.specs.Prelude.{ℕ, Bool, false, ◌&&◌, if◌then◌else◌, nat_lt, List, [], length, filter, Option, Some, None, option_and_then, option_map}
 use Rattle.std.specs.List.{filter_map, list_any}
 use Rattle.std.specs.Ordering.{is_lt}
 use Rattle.sn_topic.specs.Matching.{is_match}

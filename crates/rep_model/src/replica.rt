@@ -1,6 +1,6 @@
 //! What every replica of a set of operations promises.
 
-ghost use Rattle.std.specs.Prelude.{◌≡◌, ℕ, ◌+◌, ◌++◌, ◌∷◌, List, [], drop, None, Some, false, true, IfOk, OnOk, IfErr, MatchOption};
+ghost use Rattle.std.specs.Prelude.{◌≡◌, ◌+◌, ◌++◌, ◌∷◌, List, [], drop, None, Some, false, true, IfOk, OnOk, IfErr, MatchOption};
 ghost use Rattle.rep_op.specs.declared.op.Op.{Op};
 ghost use Rattle.rep_ops.specs.Making.{AreWellMade};
 ghost use Rattle.rep_model.specs.Views.{view, is_named};

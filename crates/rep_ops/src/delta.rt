@@ -3,7 +3,6 @@
 ghost use Rattle.std.specs.Prelude.{◌≡◌, ◌≢◌, ◌⊎◌, ◌<◌, ◌≤◌, ◌==◌, ℕ, List, [], Ok, Err, ◌++◌, length, IfOk, IfErr, OnOk, OnErr, ◌↔◌};
 ghost use Rattle.rep_ops.specs.Deltas.{IsDelta};
 ghost use Rattle.rep_op.specs.Orders.{HasTwice, AreOfClients, AreOfTopics};
-ghost use Rattle.rep_ops.specs.inner.Joining.{joined_ops};
 ghost use Rattle.rep_ops.specs.Making.{AreWellMade, HaveOwnNames, IsDeltaOf, IsRefusal};
 ghost use Rattle.rep_ops.specs.Formats.{IsSpelled};
 ghost use Rattle.rep_read.specs.Reading.{ReadsAs};

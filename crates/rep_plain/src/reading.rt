@@ -1,11 +1,11 @@
 //! What the operations of a client say, read one after the other.
 
-ghost use Rattle.std.specs.Prelude.{◌≡◌, ◌+◌, ◌↔◌, true, IsTrue, List, ◌∷◌, map, max};
+ghost use Rattle.std.specs.Prelude.{◌≡◌, ◌↔◌, true, IsTrue, List, ◌∷◌, max};
 ghost use Rattle.std.specs.Option.{option_copied};
 ghost use Rattle.std.specs.Ordering.{is_eq};
 ghost use Rattle.rep_op.specs.declared.op.Op.{Op};
 ghost use Rattle.rep_op.specs.Orders.{operation_cmp, put_cmp, is_of_client};
-ghost use Rattle.rep_op.specs.Sets.{is_acknowledged, acknowledges, Agrees};
+ghost use Rattle.rep_op.specs.Sets.{Agrees};
 ghost use Rattle.rep_op.specs.Sets as sets;
 ghost use Rattle.rep_model.specs.Views.{visible};
 ghost use Rattle.rep_plain.specs.inner.Steps.{first_of_two};

@@ -1,10 +1,10 @@
 //! The table of clients.
 
-ghost use Rattle.std.specs.Prelude.{◌≡◌, ◌+◌, ◌∷◌, [], List, ℕ, ◌≤◌, not, count_by, drop, T, IfOk, IfSome, MatchOption, Some};
-ghost use Rattle.std.specs.List.{list_any, AllByRecursion};
+ghost use Rattle.std.specs.Prelude.{◌≡◌, ◌+◌, ◌∷◌, [], List, drop, T, IfOk, IfSome, MatchOption, Some};
+ghost use Rattle.std.specs.List.{list_any};
 ghost use Rattle.std.specs.FinMap.{find, is_sorted};
 ghost use Rattle.rep_op.specs.Orders.{client_cmp};
-ghost use Rattle.rep_shared.specs.Rows.{own, flat, has_any};
+ghost use Rattle.rep_shared.specs.Rows.{own};
 ghost use Rattle.rep_shared.specs.inner.Rows.{named_rows};
 ghost use Rattle.rep_shared.specs.inner.Rows as rows;
 ghost use Rattle.rep_plain.specs.Tables.{rows_of};

@@ -1,6 +1,5 @@
 //! Octets, numbers and texts.
 
-ghost use Rattle.std.specs.Prelude.{◌≡◌};
 ghost use Rattle.std.specs.Int.{w16, w32, w64};
 ghost use Rattle.sn_topic.specs.Table as topics;
 ghost use Rattle.rep_read.specs.Reading.{ReadsAs, octet_at, octets_at, number_at, ranged, client_id_at, topic_at, body_at};

@@ -1,6 +1,6 @@
 //! Sessions and their changes.
 
-ghost use Rattle.std.specs.Prelude.{◌≡◌, ◌≤◌};
+ghost use Rattle.std.specs.Prelude.{◌≤◌};
 ghost use Rattle.rep_read.specs.Reading.{ReadsAs, head_at, parts_at, session_at, set_presence_at, set_outbound_at, fields_at, change_at};
 
 use super::field::{read_body, read_counted_two, read_octet, read_two};

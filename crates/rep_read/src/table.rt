@@ -1,6 +1,6 @@
 //! The tables of a session.
 
-ghost use Rattle.std.specs.Prelude.{◌≡◌, ◌≤◌, nat_le, []};
+ghost use Rattle.std.specs.Prelude.{nat_le, []};
 ghost use Rattle.std.specs.Int.{w16};
 ghost use Rattle.sn_tables.specs.declared.table.TheConstants.{MAX_ENTRIES};
 ghost use Rattle.rep_read.specs.Reading.{ReadsAs, ranged, number_at, many_at, entry_at, subscription_at, topics_at, subscriptions_at, received_at};

@@ -1,5 +1,5 @@
 -- Why a table takes no more.
-use Rattle.std.specs.Prelude.{◌≡◌, Bool, true, false, nat_lt, List, length, Contains}
+use Rattle.std.specs.Prelude.{◌≡◌, true, false, nat_lt, List, length, Contains}
 use Rattle.rep_op.specs.declared.op.Op.{Op}
 use Rattle.rep_op.specs.Orders.{subject_of}
 use Rattle.rep_op.specs.Sets.{Agrees}

@@ -1,6 +1,6 @@
 -- What is retained of topics as a table: each topic once, in ascending order, with what was
 -- retained of it last.
-use Rattle.std.specs.Prelude.{◌≤◌, ℕ, List, map, length, Option, Some, None, IsTrue}
+use Rattle.std.specs.Prelude.{◌≤◌, ℕ, List, map, length, IsTrue}
 use Rattle.std.specs.declared.cmp.Ordering.{Ordering}
 use Rattle.sn_tables.specs.Tables.{is_ascending}
 use Rattle.rep_op.specs.declared.op.Retained.{Retained}

@@ -1,6 +1,6 @@
 //! What every replica of the operations of clients promises.
 
-ghost use Rattle.std.specs.Prelude.{◌≡◌, ℕ, ◌+◌, ◌++◌, ◌∷◌, List, [], drop, false, true, IfOk, OnOk, IfErr, MatchOption};
+ghost use Rattle.std.specs.Prelude.{◌≡◌, ◌+◌, ◌++◌, ◌∷◌, List, [], drop, false, true, IfOk, OnOk, IfErr, MatchOption};
 ghost use Rattle.rep_op.specs.declared.op.Op.{Op};
 ghost use Rattle.rep_op.specs.Orders.{AreOfClients};
 ghost use Rattle.rep_op.specs.Sets.{Same};

@@ -1,6 +1,6 @@
 //! Whether a delta contradicts what is kept.
 
-ghost use Rattle.std.specs.Prelude.{◌≡◌, ◌⊎◌, ◌↔◌, true, IsTrue, OnOk, IfErr, ℕ, List};
+ghost use Rattle.std.specs.Prelude.{◌≡◌, ◌⊎◌, ◌↔◌, true, IsTrue, OnOk, IfErr};
 ghost use Rattle.rep_op.specs.Orders.{client_of, is_of_client, AreOfClients, subject_of};
 ghost use Rattle.rep_op.specs.Sets.{Agrees};
 ghost use Rattle.rep_model.specs.Taking.{AllAgree, IsFaultOf};

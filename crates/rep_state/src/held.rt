@@ -1,6 +1,6 @@
 //! All clients in order, and what is kept of them.
 
-ghost use Rattle.std.specs.Prelude.{◌≡◌, ◌+◌, ◌++◌, ◌∷◌, ◌≤◌, [], IfOk, OnOk, IfSome, MatchOption, Some, ℕ, drop, filter};
+ghost use Rattle.std.specs.Prelude.{◌≡◌, ◌+◌, ◌++◌, ◌∷◌, ◌≤◌, [], IfOk, OnOk, IfSome, MatchOption, Some, drop, filter};
 ghost use Rattle.std.specs.FinMap.{find};
 ghost use Rattle.rep_op.specs.Orders.{client_cmp};
 ghost use Rattle.rep_op.specs.declared.op.Op.TheVariants.{Session as OfSession, Put as OfPut};

@@ -9,7 +9,6 @@
 //! front at each place, and a publication asks every client.
 
 ghost use Rattle.std.specs.Prelude.{◌≡◌, ◌+◌, ◌<◌, ◌≤◌, ◌∷◌, [], IfOk, IsTrue, MatchOption, length, map, drop, vec_len, vec_capacity};
-ghost use Rattle.std.specs.Map.{keys_of};
 ghost use Rattle.sn_tables.specs.Tables.{is_ascending, with_entry};
 ghost use Rattle.sn_tables.specs.inner.Tables.{IsPlace};
 ghost use Rattle.rep_op.specs.Orders.{client_cmp};

@@ -1,6 +1,6 @@
 //! The table of clients.
 
-ghost use Rattle.std.specs.Prelude.{◌≡◌, ◌+◌, IfOk, nat_lt, not, count_by};
+ghost use Rattle.std.specs.Prelude.{◌≡◌, IfOk, nat_lt, not, count_by};
 ghost use Rattle.std.specs.Option.{option_copied};
 ghost use Rattle.std.specs.List.{list_any};
 ghost use Rattle.std.specs.FinMap.{find};

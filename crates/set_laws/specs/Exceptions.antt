@@ -1,8 +1,7 @@
 -- Acknowledgements above a gap, counted one by one.
-use Rattle.std.specs.Prelude.{◌≡◌, ℕ, zero, suc, ◌+◌, Bool, true, ◌&&◌, not, if◌then◌else◌, List}
+use Rattle.std.specs.Prelude.{ℕ, zero, suc, ◌+◌, Bool, true, ◌&&◌, not, if◌then◌else◌, List}
 use Rattle.rep_op.specs.declared.op.Op.{Op}
 use Rattle.rep_op.specs.Sets.{is_acknowledged}
-use Rattle.rep_model.specs.Ranges.{in_ranges}
 
 -- how many of the numbers 1 to n pass
 abbrev pub count_to : (ℕ → Bool) → ℕ → ℕ

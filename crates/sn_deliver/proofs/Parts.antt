@@ -14,10 +14,9 @@ use Rattle.sn_local.specs.Bindings.{client_at}
 use Rattle.sn_local.specs.Lifetimes.{expires_at}
 use Rattle.sn_local.specs.Locals.{Local}
 use Rattle.sn_local.specs.Seen.{Seen}
-use Rattle.sn_plan.specs.declared.plan.Plan.{Plan}
 use Rattle.sn_plan.specs.declared.row.Row.{Row}
 use Rattle.sn_plan.specs.Bound.{session_of}
-use Rattle.sn_plan.specs.Rows.{row_lasting, row_with_timer, plan_of_row, served, turned_away, unexpected_row}
+use Rattle.sn_plan.specs.Rows.{row_lasting, row_with_timer, plan_of_row, served, unexpected_row}
 use Rattle.sn_flow.specs.Connection.{disconnect_of}
 use Rattle.sn_flow.specs.Wills.{topic_update_of, message_update_of}
 use Rattle.sn_subscribe.specs.TopicRows.{register_of, subscribe_of, unsubscribe_of}
@@ -46,17 +45,12 @@ module _ (g : ℕ) (predefined : Entries) (seen : Seen) (local : Local) (a : Add
   published_any bits topic msg_id body levels.One h = sym (ap (λ b. publish_of predefined seen a b bits topic msg_id body now) (h refl))
   published_any bits topic msg_id body levels.Two h = sym (ap (λ b. publish_of predefined seen a b bits topic msg_id body now) (h refl))
 
-  named_any : (empty : Bool) (named : Row) → (not empty ≡ false → here ≡ None)
-      → (if empty then turned_away a else named) ≡ (if empty then wake_of g seen a here now else named)
-  named_any true named h = sym (ap (λ b. wake_of g seen a b now) (h refl))
-  named_any false named h = refl
-
   -- from any address, or from one without a client
   pub any_is : (frame : Frame) → Free frame → row_from_any g predefined seen local a now frame ≡ row_for g predefined seen local a frame now
   any_is (frames.Connect flags protocol duration client) h = refl
   any_is (frames.WillTopic will) h = refl
   any_is (frames.WillMsg message) h = refl
-  any_is (frames.PingReq client) h = named_any (length client == 0) (row_with_timer here now (woken g seen a client now)) h
+  any_is (frames.PingReq client) h = refl
   any_is (frames.Publish flags topic msg_id body) h = published_any flags.bits topic msg_id body (qos_of flags.bits) h
   any_is (frames.Disconnect duration) h = sym (ap (λ b. disconnect_of seen a b duration now) (h refl))
   any_is (frames.Register topic_id msg_id name) h = sym (ap (λ b. register_of seen a b msg_id name now) (h refl))

@@ -4,8 +4,7 @@
 //! where no client is bound, which is turned away; and the others from a client that is bound, whose
 //! view is looked up once.
 
-ghost use Rattle.std.specs.Prelude.{◌≡◌, ◌≤◌, IfOk, length};
-ghost use Rattle.octets.specs.declared.client_id.TheConstants.{MAX_CLIENT_ID};
+ghost use Rattle.std.specs.Prelude.{◌≡◌, IfOk};
 ghost use Rattle.sn_frame.specs.FlagBits.{qos_of};
 ghost use Rattle.sn_frame.specs.Bodies.{IsMessage};
 ghost use Rattle.rep_op.specs.ClientIds.{IsClientId};
@@ -15,13 +14,13 @@ ghost use Rattle.sn_plan.specs.Plans.{GivesPlan};
 ghost use Rattle.sn_plan.specs.Rows.{row_lasting};
 ghost use Rattle.sn_plan.specs.Scenes.{seen_in};
 ghost use Rattle.sn_flow.specs.Connection as connection;
-ghost use Rattle.sn_exchange.specs.Following.{deliver_next as plan_behind, peer_at as peer_of, visited as visited_row};
+ghost use Rattle.sn_exchange.specs.Following.{deliver_next as plan_behind, peer_at as peer_of};
 ghost use Rattle.sn_deliver.specs.Steps as spec;
 ghost use Rattle.sn_deliver.specs.inner.Parts as parts;
 
 use super::serve::{ack_in, publish_in, pubrel_in};
 use super::waking::{client_id, wake, wake_bound};
-use octets::NoMemory;
+use octets::{NoMemory, Octets};
 use rep_model::Replica;
 use rep_ops::ClientId;
 use sn_exchange::{Visit, deliver_next, peer_at, visited};
@@ -87,20 +86,6 @@ fn connected<R: Replica>(
     connect(alloc, scene, flags, protocol, duration, &client)
 }
 
-/// A PINGREQ that names a client; any other is turned away.
-fn woken<R: Replica>(alloc: Global, scene: &Scene<'_, R>, client: &[u8]) -> Result<Row, NoMemory>
-    requires { length client.now ≤ MAX_CLIENT_ID }
-    ensures { IfOk result (λ row. row ≡ parts.named_or_turned_away scene.now.config.now.gateway
-        (seen_in R.kept scene.now) scene.now.dialogs.now.local scene.now.from client.now
-        scene.now.moment) }
-{
-    if client.is_empty() {
-        turn_away(alloc, scene.from)
-    } else {
-        wake(alloc, scene, client)
-    }
-}
-
 /// A publication that needs no connection; any other is turned away.
 fn published<R: Replica>(
     alloc: Global,
@@ -149,21 +134,13 @@ fn row_from_any<R: Replica>(
         ),
         Frame::WillTopic { will } => will_topic(alloc, scene, will),
         Frame::WillMsg { message } => will_msg(alloc, scene, message.as_slice()),
-        Frame::PingReq { client } => woken(alloc, scene, client.as_slice()),
+        Frame::PingReq { client } => wake(alloc, scene, client.as_slice()),
         Frame::Publish {
             flags,
             topic,
             msg_id,
             body,
-        } => {
-            let publication = Publication {
-                flags: *flags,
-                topic: *topic,
-                msg_id: *msg_id,
-                body,
-            };
-            published(alloc, scene, &publication)
-        }
+        } => published(alloc, scene, &publication(*flags, *topic, *msg_id, body)),
         Frame::SearchGw { .. }
         | Frame::Advertise { .. }
         | Frame::GwInfo { .. }
@@ -230,15 +207,12 @@ fn row_from_bound<R: Replica>(
             topic,
             msg_id,
             body,
-        } => {
-            let publication = Publication {
-                flags: *flags,
-                topic: *topic,
-                msg_id: *msg_id,
-                body,
-            };
-            publish_in(alloc, scene, bound, &publication)
-        }
+        } => publish_in(
+            alloc,
+            scene,
+            bound,
+            &publication(*flags, *topic, *msg_id, body),
+        ),
         Frame::PubRel { msg_id } => pubrel_in(alloc, scene, bound, *msg_id),
         _ => ack_in(alloc, visit, frame),
     }
@@ -254,6 +228,21 @@ fn asking(flags: Flags, msg_id: u16, field: &[u8]) -> Asking<'_>
         flags,
         msg_id,
         field,
+    }
+}
+
+/// A PUBLISH, as its frame says it.
+fn publication(flags: Flags, topic: u16, msg_id: u16, body: &Octets) -> Publication<'_>
+    ensures flags { result.flags ≡ flags }
+    ensures topic { result.topic ≡ topic }
+    ensures msg_id { result.msg_id ≡ msg_id }
+    ensures body { result.body.now ≡ body.now }
+{
+    Publication {
+        flags,
+        topic,
+        msg_id,
+        body,
     }
 }
 

@@ -1,11 +1,12 @@
 //! Waking: a client comes back from sleep, here or at another gateway (MQTT-SN 1.2 sections 6.11
 //! and 6.14).
 
-ghost use Rattle.std.specs.Prelude.{◌≡◌, Some, IfOk, OnOk};
+ghost use Rattle.std.specs.Prelude.{◌≡◌, ◌≤◌, length, Some, IfOk, OnOk};
+ghost use Rattle.std.specs.Option.{option_copied};
+ghost use Rattle.octets.specs.declared.client_id.TheConstants.{MAX_CLIENT_ID};
 ghost use Rattle.rep_model.specs.Views.{view};
 ghost use Rattle.sn_plan.specs.declared.row.Follow.TheVariants.{Delivery};
 ghost use Rattle.sn_session.specs.declared.change.SessionOp.TheVariants.{Presence as SetPresence};
-ghost use Rattle.sn_local.specs.Bindings.{client_at};
 ghost use Rattle.sn_plan.specs.Bound.{bound_to};
 ghost use Rattle.sn_plan.specs.Drafts.{nothing, changed};
 ghost use Rattle.sn_plan.specs.Rows.{row_of};
@@ -209,7 +210,7 @@ fn woken<R: Replica>(
     row
 }
 
-/// PINGREQ without a client's id: the bound client wakes.
+/// PINGREQ without a client's id: the bound client wakes, whose view was looked up.
 pub(crate) fn wake_bound<R: Replica>(
     alloc: Global,
     scene: &Scene<'_, R>,
@@ -235,21 +236,54 @@ pub fn client_id(alloc: Global, octets: &[u8]) -> Result<ClientId, NoMemory>
     }
 }
 
-/// PINGREQ with the id of a client: it wakes here, and is claimed from the gateway that has it. The
-/// client that is bound to the address was heard of.
-pub fn wake<R: Replica>(alloc: Global, scene: &Scene<'_, R>, client: &[u8]) -> Result<Row, NoMemory>
+/// A PINGREQ without a client's id, from a client whose view is still to be looked up.
+fn wake_here<R: Replica>(
+    alloc: Global,
+    scene: &Scene<'_, R>,
+    bound: Option<&ClientId>,
+) -> Result<Row, NoMemory>
+    ensures { IfOk result (λ row. row ≡ spec.wake_of scene.now.config.now.gateway
+        (seen_in R.kept scene.now) scene.now.from (option_copied bound.entry) scene.now.moment) }
+{
+    match bound {
+        None => turn_away(alloc, scene.from),
+        Some(client) => {
+            let row = woken(alloc, scene, client)?;
+            row_with_timer(alloc, Some(client), scene.moment, row)
+        }
+    }
+}
+
+/// A PINGREQ with the id of a client: it wakes here, and is claimed from the gateway that has it.
+/// The client that is bound to the address was heard of.
+fn wake_client<R: Replica>(
+    alloc: Global,
+    scene: &Scene<'_, R>,
+    bound: Option<&ClientId>,
+    client: &[u8],
+) -> Result<Row, NoMemory>
     requires { IsClientId client.now }
-    ensures { IfOk result (λ row. row ≡ rows.row_with_timer
-        (client_at scene.now.from scene.now.dialogs.now.local.bindings) scene.now.moment
-        (spec.woken scene.now.config.now.gateway (seen_in R.kept scene.now) scene.now.from
-        client.now scene.now.moment)) }
+    ensures { IfOk result (λ row. row ≡ rows.row_with_timer (option_copied bound.entry)
+        scene.now.moment (spec.woken scene.now.config.now.gateway (seen_in R.kept scene.now)
+        scene.now.from client.now scene.now.moment)) }
 {
     let client = client_id(alloc, client)?;
     let row = woken(alloc, scene, &client)?;
-    row_with_timer(
-        alloc,
-        scene.dialogs.client_at(scene.from),
-        scene.moment,
-        row,
-    )
+    row_with_timer(alloc, bound, scene.moment, row)
+}
+
+/// PINGREQ: with the id of a client it wakes that client, which is claimed from the gateway that
+/// has it; without, the one that is bound to the address.
+pub fn wake<R: Replica>(alloc: Global, scene: &Scene<'_, R>, client: &[u8]) -> Result<Row, NoMemory>
+    requires { length client.now ≤ MAX_CLIENT_ID }
+    ensures { IfOk result (λ row. row ≡ spec.wake scene.now.config.now.gateway
+        (seen_in R.kept scene.now) scene.now.dialogs.now.local scene.now.from client.now
+        scene.now.moment) }
+{
+    let bound = scene.dialogs.client_at(scene.from);
+    if client.is_empty() {
+        wake_here(alloc, scene, bound)
+    } else {
+        wake_client(alloc, scene, bound, client)
+    }
 }

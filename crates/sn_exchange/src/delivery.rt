@@ -6,14 +6,11 @@ ghost use Rattle.sn_frame.specs.declared.frame.TheConstants.{MAX_FRAME};
 ghost use Rattle.sn_frame.specs.Bodies.{IsMessage};
 ghost use Rattle.sn_frame.specs.Grammar.{total_of};
 ghost use Rattle.sn_plan.specs.Drafts.{sent};
-ghost use Rattle.sn_exchange.specs.Forms as forms;
 ghost use Rattle.sn_exchange.specs.Exchanges.{left};
 ghost use Rattle.sn_exchange.specs.Delivery.{exchange_begun};
 ghost use Rattle.sn_exchange.specs.Delivery as spec;
 
-use super::exchange::{
-    is_awake, is_done, is_left_in_turn, is_served, name_of, open_exchange, session_after,
-};
+use super::exchange::{is_awake, is_left_in_turn, is_served, open_exchange, session_after};
 use super::form::{Form, form_of, publication};
 use super::peer::{Peer, Visit};
 use octets::{NoMemory, Octets};

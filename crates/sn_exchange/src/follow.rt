@@ -13,7 +13,9 @@ use octets::NoMemory;
 use rep_ops::ClientId;
 use sn_local::rep_model::Replica;
 use sn_local::{Addr, StepFault};
-use sn_plan::{Draft, Follow, Plan, Row, Scene, plan_of_row, session_in, unseen, view_or};
+use sn_plan::{
+    Draft, Follow, Plan, Row, Scene, finished, plan_of_row, session_in, unseen, view_or,
+};
 use sn_session::Session;
 use std::alloc::Global;
 
@@ -106,18 +108,13 @@ fn followed<R: Replica>(alloc: Global, scene: &Scene<'_, R>, row: Row) -> Result
         mut draft,
         follow,
     } = row;
-    match follow_at(alloc, scene, &client, &mut draft, &follow) {
-        Ok(()) => Ok(Row {
-            client,
-            draft,
-            follow,
-        }),
-        Err(fault) => {
-            drop(client);
-            drop(draft);
-            Err(fault)
-        }
-    }
+    let done = follow_at(alloc, scene, &client, &mut draft, &follow);
+    let draft = finished(draft, done)?;
+    Ok(Row {
+        client,
+        draft,
+        follow,
+    })
 }
 
 /// And then what follows, if the row has a client: the one that is visited.
@@ -148,18 +145,13 @@ pub fn visited(alloc: Global, visit: &Visit<'_>, row: Row) -> Result<Row, NoMemo
         mut draft,
         follow,
     } = row;
-    match follow_to(alloc, visit, &client, &mut draft, &follow) {
-        Ok(()) => Ok(Row {
-            client,
-            draft,
-            follow,
-        }),
-        Err(fault) => {
-            drop(client);
-            drop(draft);
-            Err(fault)
-        }
-    }
+    let done = follow_to(alloc, visit, &client, &mut draft, &follow);
+    let draft = finished(draft, done)?;
+    Ok(Row {
+        client,
+        draft,
+        follow,
+    })
 }
 
 /// The plan of a row with what follows it: Resend or Delivery, by the session as the row has

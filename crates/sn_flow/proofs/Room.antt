@@ -1,5 +1,5 @@
 -- How many clients there are, by the place of the last that there is room for.
-use Rattle.std.proofs.Common.{◌≡◌, ℕ, suc, ◌-◌, ◌≤◌, true, false, nat_le, Option, Some, None, is_some, MatchOption, true≢false, List, [], ◌∷◌, length, drop, length-drop, le-leb, sym, ap, ◌∙◌, arith}
+use Rattle.std.proofs.Common.{◌≡◌, suc, ◌-◌, ◌≤◌, true, false, nat_le, Option, Some, None, is_some, MatchOption, true≢false, List, [], ◌∷◌, length, drop, length-drop, le-leb, sym, ap, ◌∙◌, arith}
 use Rattle.std.proofs.lemmas.Bool.Decides.{nat_tests}
 
 pub all_taken : {A : Type 0} (xs : List A) (x : A) (rest : List A) → drop 1023 xs ≡ x ∷ rest → nat_le 1024 (length xs) ≡ true

@@ -1,5 +1,5 @@
 -- The rows of WILLTOPICUPD and WILLMSGUPD (MQTT-SN 1.2 section 6.4).
-use Rattle.std.specs.Prelude.{ℕ, ◌||◌, Bool, nat_lt, is_none, if◌then◌else◌, List, length, Option, Some, None}
+use Rattle.std.specs.Prelude.{ℕ, ◌||◌, Bool, is_none, if◌then◌else◌, List, Option, Some, None}
 use Rattle.sn_topic.specs.Topics.{name_asked}
 use Rattle.sn_session.specs.declared.session.Session.{Session}
 use Rattle.sn_session.specs.declared.will.WillTopic.{WillTopic}

@@ -1,6 +1,6 @@
 -- The rows of WILLTOPIC and WILLMSG (MQTT-SN 1.2 sections 6.2 and 6.3), and those of WILLTOPICUPD
 -- and WILLMSGUPD of a bound client (section 6.4).
-use Rattle.std.specs.Prelude.{ℕ, nat_lt, if◌then◌else◌, List, length, Option, Some, None}
+use Rattle.std.specs.Prelude.{ℕ, if◌then◌else◌, List, Option, Some, None}
 use Rattle.sn_session.specs.declared.will.Will.{Will as SessionWill}
 use Rattle.sn_session.specs.declared.will.WillTopic.{WillTopic}
 use Rattle.sn_frame.specs.declared.frame.Will.{Will}

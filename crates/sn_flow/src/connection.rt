@@ -1,11 +1,9 @@
 //! CONNECT and DISCONNECT (MQTT-SN 1.2 sections 6.2, 6.12 and 6.14).
 
 ghost use Rattle.std.specs.Prelude.{◌≡◌, Some, IfOk, OnOk};
-ghost use Rattle.std.specs.Option.{option_copied};
 ghost use Rattle.rep_model.specs.Views.{view};
 ghost use Rattle.sn_plan.specs.Scenes.{seen_in};
 ghost use Rattle.sn_plan.specs.declared.row.Follow.TheVariants as follows;
-ghost use Rattle.sn_plan.specs.Bound.{session_of};
 ghost use Rattle.sn_plan.specs.Drafts.{nothing};
 ghost use Rattle.sn_plan.specs.Rows.{row_of};
 ghost use Rattle.sn_flow.specs.Connection.{has_bit};

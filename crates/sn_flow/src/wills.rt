@@ -26,7 +26,7 @@ use sn_plan::{
     Bound, CONGESTION, Draft, Follow, NOT_SUPPORTED, Row, Scene, bound_row, finished,
     row_with_timer, unexpected_row, unseen, view_or,
 };
-use sn_session::{Message, Session, Will as SessionWill, WillTopic};
+use sn_session::{Message, Will as SessionWill, WillTopic};
 use std::alloc::Global;
 
 /// Ends a dialog without a connection.

@@ -2,7 +2,6 @@
 
 ghost use Rattle.std.specs.Prelude.{◌≡◌, ◌≢◌, ◌⊎◌, IfOk, IfErr, IsTrue, Ok, Err};
 ghost use Rattle.sn_frame.specs.declared.frame.Frame.{Frame};
-ghost use Rattle.sn_frame.specs.declared.fault.FrameFault.TheVariants as frame_faults;
 ghost use Rattle.sn_frame.specs.Bodies.{IsValue, is_light};
 ghost use Rattle.sn_frame.specs.Faults.{IsPlain, IsFirstFault};
 ghost use Rattle.sn_frame.specs.Grammar.{IsFramed, Spells};

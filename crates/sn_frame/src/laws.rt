@@ -4,7 +4,6 @@ ghost use Rattle.std.specs.Prelude.{◌≡◌, ℕ, ◌≤◌, List};
 ghost use Rattle.sn_frame.specs.declared.frame.Frame.{Frame};
 ghost use Rattle.sn_frame.specs.declared.frame.TheConstants.{MAX_FRAME};
 ghost use Rattle.sn_frame.specs.declared.fault.FrameFault.{FrameFault};
-ghost use Rattle.sn_frame.specs.declared.fault.FrameFault.TheVariants as frame_faults;
 ghost use Rattle.sn_frame.specs.Bodies.{IsMessage, IsValue};
 ghost use Rattle.sn_frame.specs.Faults.{IsFirstFault};
 ghost use Rattle.sn_frame.specs.Grammar.{Spells, spelling, total_of};

@@ -1,5 +1,5 @@
 -- The plan of a step.
-use Rattle.std.specs.Prelude.{◌≡◌, ℕ, Bool, List, [], Option, Some, None, option_and_then, Result, MatchResult, ⊤}
+use Rattle.std.specs.Prelude.{◌≡◌, ℕ, List, [], Option, Some, None, option_and_then, Result, MatchResult, ⊤}
 use Rattle.std.specs.Option.{option_map}
 use Rattle.sn_local.specs.Seen.{Seen}
 use Rattle.sn_local.specs.declared.fault.StepFault.{StepFault}

@@ -1,6 +1,6 @@
 //! What rows say of a client that is bound, or becomes so, and what they read of it.
 
-ghost use Rattle.std.specs.Prelude.{◌≡◌, IfOk, OnOk, unwrap_or};
+ghost use Rattle.std.specs.Prelude.{◌≡◌, OnOk, unwrap_or};
 ghost use Rattle.std.specs.Option.{option_copied};
 ghost use Rattle.sn_session.specs.Session.{empty_session};
 ghost use Rattle.rep_model.specs.Views.{view};

@@ -1,9 +1,8 @@
 //! SUBSCRIBE and UNSUBSCRIBE (MQTT-SN 1.2 section 6.9).
 
 ghost use Rattle.std.specs.Prelude.{◌≡◌, Some, IfOk, OnOk};
-ghost use Rattle.sn_frame.specs.FlagBits.{kind_of};
 ghost use Rattle.sn_local.specs.Seen.{seen_of};
-ghost use Rattle.sn_plan.specs.Drafts.{nothing, hand_all, sent};
+ghost use Rattle.sn_plan.specs.Drafts.{nothing, hand_all};
 ghost use Rattle.sn_subscribe.specs.Subscription.{refused};
 ghost use Rattle.sn_subscribe.specs.Subscription as spec;
 

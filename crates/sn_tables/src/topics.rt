@@ -1,6 +1,6 @@
 //! The topic ids of a session.
 
-ghost use Rattle.std.specs.Prelude.{◌≡◌, ◌==◌, ◌<◌, ◌≤◌, ◌↔◌, ◌++◌, [], ◌∷◌, length, is_some, IfOk, IfSome, MatchOption, OnOk, OnErr, IsErrOf, IsTrue, false, map, option_copied};
+ghost use Rattle.std.specs.Prelude.{◌≡◌, ◌==◌, ◌<◌, ◌≤◌, ◌↔◌, ◌++◌, [], ◌∷◌, length, IfOk, IfSome, MatchOption, OnOk, OnErr, IsErrOf, IsTrue, false, map, option_copied};
 ghost use Rattle.std.specs.Ordering.{nat_cmp};
 ghost use Rattle.sn_tables.specs.declared.table.TheConstants.{MAX_ENTRIES};
 ghost use Rattle.sn_tables.specs.Tables.{IsTable};

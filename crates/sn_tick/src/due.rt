@@ -1,7 +1,7 @@
 //! What time asks for: which client is due, and for what (MQTT-SN 1.2 sections 6.11, 6.13 and
 //! 6.14). Messages that need not wait any more are due as well.
 
-ghost use Rattle.std.specs.Prelude.{◌≡◌, ◌≤◌, Option, None, IfOk, IsTrue};
+ghost use Rattle.std.specs.Prelude.{◌≡◌, Option, None, IfOk, IsTrue};
 ghost use Rattle.std.specs.Option.{option_copied};
 ghost use Rattle.rep_model.specs.Views as views;
 ghost use Rattle.sn_local.specs.declared.config.Addr.{Addr as Address};

@@ -1,6 +1,6 @@
 //! The topic ids that every client knows from the start.
 
-ghost use Rattle.std.specs.Prelude.{◌≡◌, IfOk, IfErr, IsErrOf, IsTrue, IsFalse, ◌↔◌, ◌≢◌, Err, [], ◌≤◌, MatchOption, Contains, All};
+ghost use Rattle.std.specs.Prelude.{◌≡◌, IfOk, IfErr, IsErrOf, IsTrue, IsFalse, ◌↔◌, Err, [], ◌≤◌, MatchOption, Contains, All};
 ghost use Rattle.std.specs.Option.{option_copied};
 ghost use Rattle.sn_topic.specs.Table.{name_of_id, ids_of, least};
 ghost use Rattle.sn_topic.specs.Table as spec;

@@ -1,7 +1,7 @@
 //! How replies go out: what is sent counts among what the shift keeps, and two gateways do not turn
 //! each other away without end.
 
-ghost use Rattle.std.specs.Prelude.{◌≡◌, ◌<◌, ◌≤◌, ◌+◌, ◌*◌, ◌%◌};
+ghost use Rattle.std.specs.Prelude.{◌≡◌, ◌<◌, ◌+◌, ◌*◌, ◌%◌};
 ghost use Rattle.sngw.specs.inner.Posting as spec;
 
 use crate::board::Shared;

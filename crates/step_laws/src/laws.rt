@@ -8,7 +8,7 @@ ghost use Rattle.rep_op.specs.declared.op.Op.{Op};
 ghost use Rattle.rep_model.specs.Views.{clients};
 ghost use Rattle.sn_local.specs.declared.config.Addr.{Addr};
 ghost use Rattle.sn_plan.specs.declared.plan.Plan.{Plan};
-ghost use Rattle.sn_local.specs.Locals.{Local, after_all};
+ghost use Rattle.sn_local.specs.Locals.{Local};
 ghost use Rattle.sn_local.specs.Seen.{Seen, seen_of};
 ghost use Rattle.sn_plan.specs.Plans.{plan_without};
 ghost use Rattle.sn_plan.specs.Drafts.{nothing};

@@ -1,6 +1,6 @@
 //! A wire that brings what the row says.
 
-ghost use Rattle.std.specs.Prelude.{◌≤◌, ◌+◌, length, IfSome};
+ghost use Rattle.std.specs.Prelude.{◌≤◌, length, IfSome};
 
 use gw_wire::{Arrival, Came, Tally, Wire, WireFault};
 use jr_disk::Failures;

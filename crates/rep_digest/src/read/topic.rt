@@ -1,6 +1,5 @@
 //! An entry of a topic.
 
-ghost use Rattle.std.specs.Prelude.{◌≡◌};
 ghost use Rattle.rep_read.specs.Reading.{ReadsAs};
 ghost use Rattle.rep_digest.specs.Reading.{retained_at};
 

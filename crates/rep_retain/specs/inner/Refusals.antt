@@ -1,5 +1,5 @@
 -- Whether what is retained of one topic contradicts what a table has of it.
-use Rattle.std.specs.Prelude.{◌≡◌, ℕ, Bool, if◌then◌else◌, Option, Some, None, IfSome}
+use Rattle.std.specs.Prelude.{◌≡◌, ℕ, if◌then◌else◌, Option, Some, None, IfSome}
 use Rattle.std.specs.Ordering.{is_eq}
 use Rattle.rep_op.specs.declared.op.Retained.{Retained}
 use Rattle.rep_op.specs.Orders.{clock_of, clock_cmp}

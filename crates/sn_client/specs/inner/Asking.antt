@@ -1,5 +1,5 @@
 -- The flags of a frame, MQTT-SN 1.2 section 5.3.4, and message ids.
-use Rattle.std.specs.Prelude.{ℕ, ◌+◌, ◌==◌, Bool, true, false, if◌then◌else◌}
+use Rattle.std.specs.Prelude.{ℕ, ◌+◌, ◌==◌, Bool, if◌then◌else◌}
 use Rattle.sn_frame.specs.declared.flags.Flags.{Flags}
 use Rattle.sn_frame.specs.declared.flags.Qos.{Qos}
 use Rattle.sn_frame.specs.declared.flags.Qos.TheVariants as levels

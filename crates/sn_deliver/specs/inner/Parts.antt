@@ -1,5 +1,5 @@
 -- The step table in three parts, as docs/STEPS.md has it and the code looks things up.
-use Rattle.std.specs.Prelude.{ℕ, ◌==◌, Bool, true, false, not, if◌then◌else◌, List, length, Option, Some}
+use Rattle.std.specs.Prelude.{ℕ, ◌==◌, Bool, true, false, not, List, length, Option, Some}
 use Rattle.sn_topic.specs.Table.{Entries}
 use Rattle.sn_session.specs.declared.session.Session.{Session}
 use Rattle.sn_frame.specs.declared.flags.Qos.{Qos}
@@ -9,7 +9,6 @@ use Rattle.sn_frame.specs.declared.frame.Frame.TheVariants as frames
 use Rattle.sn_frame.specs.FlagBits.{qos_of}
 use Rattle.rep_model.specs.declared.view.ClientView.{ClientView}
 use Rattle.sn_local.specs.declared.config.Addr.{Addr}
-use Rattle.sn_local.specs.Bindings.{client_at}
 use Rattle.sn_local.specs.Lifetimes.{expires_at}
 use Rattle.sn_local.specs.Locals.{Local}
 use Rattle.sn_local.specs.Seen.{Seen}
@@ -26,7 +25,7 @@ use Rattle.sn_subscribe.specs.Subscription.{subscribe, unsubscribe}
 use Rattle.sn_publish.specs.Publishing.{publish, publish_unconnected, pubrel}
 use Rattle.sn_exchange.specs.Following.{peer_at, visited}
 use Rattle.sn_deliver.specs.Acknowledging.{acknowledge}
-use Rattle.sn_deliver.specs.Waking.{woken, woken_if}
+use Rattle.sn_deliver.specs.Waking.{wake, woken_if}
 
 -- a publication at quality of service -1 needs no connection
 abbrev pub is_unconnected : Qos → Bool
@@ -52,12 +51,6 @@ is_from_any (frames.WillTopicResp code) = true
 is_from_any (frames.WillMsgResp code) = true
 is_from_any frame = false
 
--- PINGREQ that names a client; without a name the address is turned away
-abbrev pub named_or_turned_away : ℕ → Seen → Local → Addr → List ℕ → ℕ → Row
-named_or_turned_away g seen local a c now =
-    if length c == 0 then turned_away a
-    else row_with_timer (client_at a local.bindings) now (woken g seen a c now)
-
 -- PUBLISH at quality of service -1; at any other the address is turned away
 abbrev pub spread_or_turned_away : Entries → Seen → Addr → ℕ → ℕ → List ℕ → Qos → Row
 spread_or_turned_away predefined seen a bits topic body levels.MinusOne =
@@ -73,7 +66,7 @@ row_from_any g predefined seen local a now (frames.WillTopic will) =
 row_from_any g predefined seen local a now (frames.WillMsg message) =
     will_msg seen local a message now
 row_from_any g predefined seen local a now (frames.PingReq client) =
-    named_or_turned_away g seen local a client now
+    wake g seen local a client now
 row_from_any g predefined seen local a now (frames.Publish flags topic msg_id body) =
     spread_or_turned_away predefined seen a flags.bits topic body (qos_of flags.bits)
 row_from_any g predefined seen local a now (frames.SearchGw radius) =

@@ -1,5 +1,5 @@
 -- Which datagrams the fence counts, and together with which others; and which are sent again.
-use Rattle.std.specs.Prelude.{ℕ, ◌+◌, ◌*◌, ◌%◌, ◌==◌, Bool, true, false, List, [], ◌∷◌, ◌&&◌, ◌||◌, if◌then◌else◌}
+use Rattle.std.specs.Prelude.{ℕ, ◌+◌, ◌*◌, ◌%◌, ◌==◌, Bool, false, List, [], ◌∷◌, ◌&&◌, ◌||◌, if◌then◌else◌}
 use Rattle.sn_local.specs.declared.config.Addr.{Addr}
 
 -- the group of an address, one of 4,096

@@ -1,4 +1,4 @@
-use Rattle.std.proofs.Common.{◌≡◌, Bool, false, not, ◌&&◌, sym, ◌∙◌}
+use Rattle.std.proofs.Common.{◌≡◌, false, not, ◌&&◌, sym, ◌∙◌}
 use Rattle.rep_model.specs.Views.{clients, is_named}
 use Rattle.sn_flow.proofs.Room.{all_taken, one_free, not_there}
 use Rattle.sn_flow.proofs.accept.has_no_room.Goals as goal
