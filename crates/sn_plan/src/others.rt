@@ -2,17 +2,15 @@
 
 ghost use Rattle.std.specs.Prelude.{◌≡◌, IfOk};
 ghost use Rattle.sn_plan.specs.Others as spec;
-ghost use Rattle.rep_model.specs.Views.{view};
 
 use super::draft::Draft;
 use super::row::{Row, empty_row, unexpected_row};
 use super::scene::Scene;
 use octets::{NoMemory, Octets};
 use rep_model::Replica;
-use rep_model::rep_ops::ClientId;
 use sn_frame::Frame;
 use sn_local::{Addr, Config};
-use sn_session::Presence;
+use sn_session::{Presence, Session};
 use std::alloc::Global;
 
 /// A SEARCHGW.
@@ -67,15 +65,13 @@ pub fn is_up(presence: Presence) -> bool
     }
 }
 
-/// Whether the client is there, so that a PINGREQ wakes it.
-pub fn can_wake<R: Replica>(replica: &R, client: &ClientId) -> bool
-    ensures { result ≡ spec.can_wake (view client.now (R.kept replica.now)).session }
+/// Whether there is a session of a client that is Active, Asleep or Awake, so that a PINGREQ wakes
+/// it.
+pub fn can_wake(session: &Option<Session>) -> bool
+    ensures { result ≡ spec.can_wake session.now }
 {
-    match replica.view_of(client) {
-        Some(view) => match &view.session {
-            Some(session) => is_up(session.presence),
-            None => false,
-        },
+    match session {
         None => false,
+        Some(session) => is_up(session.presence),
     }
 }

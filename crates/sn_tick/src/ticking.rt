@@ -1,11 +1,10 @@
 //! Tick: what a gateway does as time goes by (MQTT-SN 1.2 sections 6.1, 6.3, 6.11 and 6.13), and
 //! when messages need not wait any more.
 
-ghost use Rattle.std.specs.Prelude.{◌≡◌, if◌then◌else◌, Some, fold, IfOk, IsOk, OnOk};
+ghost use Rattle.std.specs.Prelude.{◌≡◌, if◌then◌else◌, Some, fold, IfOk, OnOk};
 ghost use Rattle.rep_model.specs.Views as views;
 ghost use Rattle.sn_local.specs.declared.local.LocalChange.TheVariants.{Heard, Retried};
 ghost use Rattle.sn_plan.specs.Drafts.{moved};
-ghost use Rattle.sn_plan.specs.Others.{can_wake};
 ghost use Rattle.sn_local.specs.Seen.{seen_of};
 ghost use Rattle.sn_plan.specs.Plans.{GivesPlan};
 ghost use Rattle.sn_plan.specs.Plans as plans;
@@ -27,8 +26,8 @@ use sn_local::{
     Addr, Config, Dialogs, LocalChange, StepFault, WillDialog, expires_at, is_stamp_of,
 };
 use sn_plan::{
-    Draft, Follow, NewPut, Plan, Posted, Row, Scene, is_up, plan_of, plan_without, session_or,
-    unseen, view_or,
+    Draft, Follow, NewPut, Plan, Posted, Row, Scene, can_wake, finished, plan_of, plan_without,
+    session_or, unseen, view_or,
 };
 use sn_publish::{puts_of_will, retained_of_will};
 use sn_session::{Presence, Session, SessionOp, Will};
@@ -36,19 +35,6 @@ use std::alloc::Global;
 
 /// How many seconds a will dialog lasts.
 pub const DIALOG_SECONDS: u64 = 60;
-
-/// The draft, unless memory ran out while it was written.
-fn finished(draft: Draft, done: Result<(), NoMemory>) -> Result<Draft, NoMemory>
-    ensures { IfOk result (λ made. (made ≡ draft) × IsOk done) }
-{
-    match done {
-        Ok(()) => Ok(draft),
-        Err(fault) => {
-            drop(draft);
-            Err(fault)
-        }
-    }
-}
 
 /// What a tick reads: the gateway's settings, what it has taken, its local state, and when it is.
 #[derive(Drop)]
@@ -92,16 +78,6 @@ fn end_dialogs(draft: &mut Draft, now: u64, dialogs: &[WillDialog]) -> Result<()
     Ok(())
 }
 
-/// Whether there is a session of a client that is Active, Asleep or Awake.
-fn is_there(session: &Option<Session>) -> bool
-    ensures { result ≡ can_wake session.now }
-{
-    match session {
-        None => false,
-        Some(session) => is_up(session.presence),
-    }
-}
-
 /// Whether a client of this view needs a timer.
 pub(crate) fn needs_timer(
     gateway: u8,
@@ -112,7 +88,7 @@ pub(crate) fn needs_timer(
     ensures { result ≡ spec.needs_timer gateway dialogs.now.local.timers client.now view.now }
 {
     is_stamp_of(gateway, view.stamp)
-        && is_there(&view.session)
+        && can_wake(&view.session)
         && dialogs.timer_of(client).is_none()
 }
 
