@@ -14,6 +14,7 @@ import json
 import os
 import pathlib
 import re
+import shutil
 import signal
 import socket
 import subprocess
@@ -166,7 +167,7 @@ def file_of(name):
 
 def main(words):
     program = TOP / "out/trial/programs/sngw"
-    if not program.exists():
+    if not program.exists() or not all(map(shutil.which, ("gdb", "nm"))):
         return __doc__
     crates = {path.name for path in (TOP / "crates").iterdir()}
     functions, copies = symbols(program, crates)
