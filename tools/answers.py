@@ -47,8 +47,8 @@ def strange(crate):
         words = words_of(source_of(crate, parts), parts[-1])
         if not words:
             continue
-        for name in sorted(set(re.findall(r"\bc\.([\w\-]+)", path.read_text()))):
-            if any(not it.isdigit() and it not in KIT and it not in words for it in name.split("-")):
+        for name in sorted(set(re.findall(r"\bc\.(args\.\w+|[\w\-]+)", path.read_text()))):
+            if any(not it.isdigit() and it not in KIT and it not in words for it in re.split(r"[-.]", name)):
                 yield path.relative_to(TOP), name
 
 
